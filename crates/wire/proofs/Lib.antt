@@ -1,0 +1,13 @@
+pub mod Digits
+pub mod Stand
+pub mod Steps
+pub mod Rules
+pub mod Complete
+pub mod Sound
+pub mod Prefix
+pub mod Stable
+pub mod Refused
+pub mod Written
+pub mod Then
+pub mod Later
+pub mod Order

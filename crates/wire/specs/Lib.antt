@@ -1,0 +1,10 @@
+pub mod Bytes
+pub mod Faults
+pub mod Layout
+pub mod Reading
+pub mod Grammar
+pub mod Refusals
+pub mod Writing
+pub mod Unwritten
+pub mod Editions
+pub mod Sizes
