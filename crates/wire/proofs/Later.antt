@@ -2,17 +2,18 @@
 -- Assumes nothing.
 use Prim.Native.Nat.{ℕ, suc, _+_, _^_, _≤_, _<_}
 use native.Mathlib.Omega.{arith}
-use mathlib.Core.Path.{_≡_, refl, ap}
+use mathlib.Core.Path.{_≡_, refl, sym, ap, _∙_}
 use mathlib.Core.Logic.{_⊎_, inl, inr}
 use mathlib.Core.Bool.{Bool, true, false}
-use mathlib.Core.List.{List, _++_}
+use mathlib.Core.List.{List, _∷_, _++_}
 use lib.ListN.{length, length-append}
 use borrow.Author.Tests.{le-leb}
 use Rattle.wire.specs.Bytes.{Bytes, digits}
 use Rattle.wire.specs.declared.fault.Refusal.{Refusal}
 use Rattle.wire.specs.Layout.{Rule, Layout, arm, number, plain, buffer, counted, allows, breach}
 use Rattle.wire.specs.Reading.{refused, read}
-use Rattle.wire.specs.Faults.{noSuchArm}
+use Rattle.wire.specs.declared.fault.Fault.the-variants.{Short}
+use Rattle.wire.specs.Faults.{short, noSuchArm}
 use Rattle.wire.specs.Grammar.{Token, Spells, Items, ends, holds, says, shows, sizes, counts, none, more, placed, Stands}
 use Rattle.wire.specs.Refusals.{not-allowed, Refuses, RefusesItems, no-arm, no-number, in-list, past-arm, past-number, past-bytes, past-buffer, past-list, in-item, past-item}
 use Rattle.wire.specs.Editions.{LaterRule, Later, stop-same, arm-new, arm-same, number-later, plain-same, buffer-same, counted-same, Newer, Foreign}
@@ -21,6 +22,7 @@ use Rattle.wire.proofs.Stand.{stands-front, stands-back}
 use Rattle.wire.proofs.Rules.{keeps-codes, adds-code}
 use Rattle.wire.proofs.Complete.{read-complete}
 use Rattle.wire.proofs.Refused.{refuses-read}
+use Rattle.wire.proofs.Stable.{Stays, read-stable, cut-not-found, cut-bytes, cut-stands}
 
 -- the record d of a later edition is one of l too, with the same parts
 abbrev pub Kept : {l′ : Layout} {ts : List Token} {bs : List ℕ} (l : Layout) → Spells l′ ts bs → Type 0
@@ -112,6 +114,24 @@ later-read {l} {l′} {ts} {bs} {src} {at} x d s = go (later x d s)
     go : Verdict l d src at → (read l src at ≡ read l′ src at) ⊎ ((f : Refusal) × Foreign l src at f × (read l src at ≡ refused f))
     go (inl c) = inl (rw (read-complete (c .0) s, read-complete d s, c .1 at))
     go (inr g) = inr (g .0, record { newer = g .1; first = g .2 }, refuses-read (g .2))
+
+-- and a record of a later edition that is cut is refused: with Short, or at a code or arm that is new
+pub later-cut : {l l′ : Layout} {ts : List Token} (before xs : List ℕ) (y : ℕ) (ys : List ℕ) → Bytes before → Later l l′ → Spells l′ ts (xs ++ (y ∷ ys))
+    → (f : Refusal) × (read l (before ++ xs) (length before) ≡ refused f) × ((f .fault ≡ Short) ⊎ Newer f)
+later-cut {l} {l′} before xs y ys b x d = go (read-stable l (before ++ xs) (y ∷ ys) (length before)) (later-read x d (cut-stands before xs y ys))
+  where
+    at : ℕ
+    at = length before
+
+    cut : List ℕ
+    cut = before ++ xs
+
+    go : Stays (read l cut at) (read l (cut ++ (y ∷ ys)) at)
+        → (read l (cut ++ (y ∷ ys)) at ≡ read l′ (cut ++ (y ∷ ys)) at) ⊎ ((f : Refusal) × Foreign l (cut ++ (y ∷ ys)) at f × (read l (cut ++ (y ∷ ys)) at ≡ refused f))
+        → (f : Refusal) × (read l cut at ≡ refused f) × ((f .fault ≡ Short) ⊎ Newer f)
+    go (inl q) v = (short (q .0) (q .1), q .2, inl refl)
+    go (inr e) (inl same) = absurd (cut-not-found l before xs y ys (cut-bytes before xs y ys b d) (sym e ∙ same ∙ read-complete d (cut-stands before xs y ys)))
+    go (inr e) (inr g) = (g .0, sym e ∙ g .2, inr (g .1 .newer))
 
 items-earlier : {i i′ : Layout} {n : ℕ} {bs : List ℕ} → ((ts : List Token) (xs : List ℕ) → Spells i ts xs → Spells i′ ts xs) → Items i n bs → Items i′ n bs
 items-earlier one none = none

@@ -6,8 +6,12 @@ pub mod Complete
 pub mod Sound
 pub mod Prefix
 pub mod Stable
+pub mod Whole
+pub mod Faults
 pub mod Refused
 pub mod Written
 pub mod Then
+pub mod Split
+pub mod Sizes
 pub mod Later
 pub mod Order

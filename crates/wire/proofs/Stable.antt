@@ -12,7 +12,7 @@ use Rattle.wire.specs.declared.fault.Fault.the-variants.{Short}
 use Rattle.wire.specs.declared.fault.Refusal.{Refusal}
 use Rattle.wire.specs.Bytes.{Bytes}
 use Rattle.wire.specs.Layout.{Rule, Layout, stop, noArm, arm, number, plain, buffer, counted, lengthTo, countTo}
-use Rattle.wire.specs.Reading.{Part, num, tag, span, Ans, found, refused, next, also, Parsed, Reader, left, piece, field, walk, list, read}
+use Rattle.wire.specs.Reading.{Part, num, tag, span, Ans, found, refused, next, also, Parsed, parsed, Reader, left, piece, field, walk, list, read}
 use Rattle.wire.specs.Faults.{short}
 use Rattle.wire.specs.Grammar.{Token, Spells, Stands}
 use Rattle.wire.proofs.Stand.{stands-of, stands-left, stands-longer, stands-behind, bytes-front, bytes-append}
@@ -102,19 +102,26 @@ stays-refused l src more at {f} p h = go (read-stable l src more at)
     go (inl q) = absurd (h (ap (λ f. f .fault) (refused-same (sym p ∙ q .2))))
     go (inr e) = e ∙ p
 
+-- what is read ends in the input: a record that goes on behind its end is not found there
+pub cut-not-found : (l : Layout) (before xs : List ℕ) (y : ℕ) (ys : List ℕ) {ps : List Part} → Bytes (before ++ xs)
+    → read l (before ++ xs) (length before) ≡ parsed ps (length before + length (xs ++ (y ∷ ys))) → ⊥
+cut-not-found l before xs y ys b p =
+    let size = length-append before xs in
+    let s = read-sound l (before ++ xs) (length before) _ b p in
+    omega (arith, s .ends, stands-left (s .stands), length-append xs (y ∷ ys))
+
+-- the bytes of a cut record, and those in front of it
+pub cut-bytes : {l : Layout} {ts : List Token} (before xs : List ℕ) (y : ℕ) (ys : List ℕ) → Bytes before → Spells l ts (xs ++ (y ∷ ys)) → Bytes (before ++ xs)
+cut-bytes before xs y ys b d = bytes-append before xs b (bytes-front xs (y ∷ ys) (spells-bytes d))
+
+-- where the record stands before it is cut
+pub cut-stands : (before xs : List ℕ) (y : ℕ) (ys : List ℕ) → Stands ((before ++ xs) ++ (y ∷ ys)) (length before) (xs ++ (y ∷ ys))
+cut-stands before xs y ys = rw append-assoc (rw append-nil at (stands-behind before (xs ++ (y ∷ ys)) []))
+
 -- a record that is cut is Short: xs stands at the end of the input, and the record goes on
 pub cut-short : {l : Layout} {ts : List Token} (before xs : List ℕ) (y : ℕ) (ys : List ℕ) → Bytes before → Spells l ts (xs ++ (y ∷ ys)) → IsShort (read l (before ++ xs) (length before))
 cut-short {l} {ts} before xs y ys b d = go (read-stable l (before ++ xs) (y ∷ ys) (length before))
   where
-    byte : Bytes (before ++ xs)
-    byte = bytes-append before xs b (bytes-front xs (y ∷ ys) (spells-bytes d))
-
-    stands : Stands ((before ++ xs) ++ (y ∷ ys)) (length before) (xs ++ (y ∷ ys))
-    stands = rw append-assoc (rw append-nil at (stands-behind before (xs ++ (y ∷ ys)) []))
-
     go : Stays (read l (before ++ xs) (length before)) (read l ((before ++ xs) ++ (y ∷ ys)) (length before)) → IsShort (read l (before ++ xs) (length before))
     go (inl q) = q
-    go (inr e) =
-        let size = length-append before xs in
-        let s = read-sound l (before ++ xs) (length before) _ byte (sym e ∙ read-complete d stands) in
-        absurd (omega (arith, s .ends, stands-left (s .stands), length-append xs (y ∷ ys)))
+    go (inr e) = absurd (cut-not-found l before xs y ys (cut-bytes before xs y ys b d) (sym e ∙ read-complete d (cut-stands before xs y ys)))
