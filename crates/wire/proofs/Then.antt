@@ -1,14 +1,50 @@
--- A layout behind another: it is read behind it. So a record in a record is read by its own reader. Assumes nothing.
+-- A layout behind another: it is read and written behind it. So a record in a record is read by its own reader, and written by its
+-- own writer. Assumes nothing.
 use Prim.Native.Nat.{ℕ, _+_, _-_}
-use mathlib.Core.Path.{_≡_, refl}
-use mathlib.Core.List.{List, [], _∷_, _++_}
-use mathlib.Core.Path.{ap, _∙_}
-use mathlib.Core.List.{append-assoc}
-use lib.ListN.{length}
+use native.Mathlib.Nat.{add-assoc, add-zero}
+use mathlib.Core.Path.{_≡_, refl, sym, ap, _∙_}
+use mathlib.Core.Bool.{Bool, true, false}
+use mathlib.Core.List.{List, [], _∷_, _++_, append-assoc}
+use lib.ListN.{length, length-append}
+use lib.Dec.{eqb}
+use borrow.Author.Tests.{eq-eqb, eqb-true}
 use Rattle.wire.specs.Bytes.{digits}
 use Rattle.wire.specs.Grammar.{Token, Spells, ends, holds, says, shows, sizes, counts}
-use Rattle.wire.specs.Layout.{Layout, stop, noArm, arm, number, plain, buffer, counted, _then_, lengthTo}
-use Rattle.wire.specs.Reading.{Part, num, tag, span, Ans, found, refused, Parsed, parsed, next, also, piece, field, list, read}
+use Rattle.wire.specs.declared.fault.Refusal.{Refusal}
+use Rattle.wire.specs.Faults.{mismatch}
+use Rattle.wire.specs.Layout.{Rule, Layout, stop, noArm, arm, number, plain, buffer, counted, _then_, lengthTo}
+use Rattle.wire.specs.Reading.{Part, num, tag, span, Ans, found, refused, Parsed, parsed, next, also, piece, field, when, list, read}
+use Rattle.wire.specs.Writing.{cut, spelt, whole, moved, ahead, onto, lay}
+use Rattle.wire.specs.Unwritten.{Shaped}
+use Rattle.wire.proofs.Digits.{length-digits}
+use Rattle.wire.proofs.Steps.{found-same, next-found, when-found}
+use Rattle.wire.proofs.Written.{spelt-found, cut-found, moved-found}
+
+-- ---- layouts in a row
+
+-- they are bracketed either way
+pub then-assoc : (l m o : Layout) → (l then m) then o ≡ l then (m then o)
+unfolding _then_
+then-assoc stop m o = refl
+then-assoc (noArm v) m o = refl
+then-assoc (arm v t l) m o = ap (λ x. arm v t x) (then-assoc l m o)
+then-assoc (number w r k) m o = ap (λ x. number w r x) (λ i n. then-assoc (k n) m o i)
+then-assoc (plain n l) m o = ap (λ x. plain n x) (then-assoc l m o)
+then-assoc (buffer w b l) m o = ap (λ x. buffer w b x) (then-assoc l m o)
+then-assoc (counted b j l) m o = ap (λ x. counted b j x) (then-assoc l m o)
+
+-- and nothing more behind a layout changes nothing
+pub then-stop : (l : Layout) → l then stop ≡ l
+unfolding _then_
+then-stop stop = refl
+then-stop (noArm v) = refl
+then-stop (arm v t l) = ap (λ x. arm v t x) (then-stop l)
+then-stop (number w r k) = ap (λ x. number w r x) (λ i n. then-stop (k n) i)
+then-stop (plain n l) = ap (λ x. plain n x) (then-stop l)
+then-stop (buffer w b l) = ap (λ x. buffer w b x) (then-stop l)
+then-stop (counted b j l) = ap (λ x. counted b j x) (then-stop l)
+
+-- ---- reading
 
 -- the parts ps, and behind them those of a
 abbrev pub behind : List Part → Ans Parsed → Ans Parsed
@@ -65,3 +101,156 @@ spells-then {cs = cs} (shows {cs = bs} xs h b p d) e = shows xs h b (ap (λ t. t
 spells-then {cs = cs} (sizes {w} {cs = bs} xs h m b p d) e =
     sizes xs h m b (ap (λ t. t ++ cs) p ∙ append-assoc (digits w (length xs)) (xs ++ bs) cs ∙ ap (λ t. digits w (length xs) ++ t) (append-assoc xs bs cs)) (spells-then d e)
 spells-then {cs = cs} (counts {xs = xs} {cs = bs} n h m c is p d) e = counts n h m c is (ap (λ t. t ++ cs) p ∙ append-assoc xs bs cs) (spells-then d e)
+
+-- ---- writing
+
+next-all : (a : Ans (List ℕ)) → next a (λ ys. found ys) ≡ a
+next-all (found xs) = refl
+next-all (refused f) = refl
+
+-- what is written behind nothing is all
+pub onto-none : (at : ℕ) (k : ℕ → Ans (List ℕ)) → onto at (found []) k ≡ k at
+onto-none at k = ap (λ e. next (k e) (λ ys. found ys)) (add-zero at) ∙ next-all (k at)
+
+join-behind : (xs ys : List ℕ) (c : Ans (List ℕ)) → next c (λ zs. found ((xs ++ ys) ++ zs)) ≡ next (next c (λ zs. found (ys ++ zs))) (λ zs. found (xs ++ zs))
+join-behind xs ys (found zs) = ap found (append-assoc xs ys zs)
+join-behind xs ys (refused f) = refl
+
+bytes-onto : (at : ℕ) (xs : List ℕ) (b : Ans (List ℕ)) (k : ℕ → Ans (List ℕ))
+    → next (onto (at + length xs) b k) (λ zs. found (xs ++ zs)) ≡ onto at (next b (λ ys. found (xs ++ ys))) k
+bytes-onto at xs (found ys) k =
+    sym (join-behind xs ys (k (at + length xs + length ys)))
+    ∙ ap (λ e. next (k e) (λ zs. found ((xs ++ ys) ++ zs))) (add-assoc at (length xs) (length ys) ∙ ap (λ n. at + n) (sym (length-append xs ys)))
+bytes-onto at xs (refused f) k = refl
+
+-- three in a row are bracketed either way
+pub onto-onto : (at : ℕ) (a : Ans (List ℕ)) (f g : ℕ → Ans (List ℕ)) → onto at (onto at a f) g ≡ onto at a (λ e. onto e (f e) g)
+onto-onto at (found xs) f g = sym (bytes-onto at xs (f (at + length xs)) g)
+onto-onto at (refused r) f g = refl
+
+-- a step, and what follows it
+next-onto : {A : Type 0} (at : ℕ) (a : Ans A) (f g : A → Ans (List ℕ)) (k : ℕ → Ans (List ℕ)) → ((x : A) → a ≡ found x → f x ≡ onto at (g x) k) → next a f ≡ onto at (next a g) k
+next-onto at (found x) f g k h = h x refl
+next-onto at (refused e) f g k h = refl
+
+-- what a test lets through
+when-onto : (at : ℕ) (t : Bool) (a c : Ans (List ℕ)) (f : Refusal) (k : ℕ → Ans (List ℕ)) → (t ≡ true → c ≡ onto at a k) → when t c (refused f) ≡ onto at (when t a (refused f)) k
+when-onto at true a c f k h = h refl
+when-onto at false a c f k h = refl
+
+-- bytes, w of them, and what is written behind them
+ahead-onto : (w at : ℕ) (a b c : Ans (List ℕ)) (k : ℕ → Ans (List ℕ)) → ((xs : List ℕ) → a ≡ found xs → (length xs ≡ w) × (c ≡ onto (at + w) b k)) → ahead a c ≡ onto at (ahead a b) k
+ahead-onto w at (found xs) b c k h =
+    let (size, rest) = h xs refl in
+    rw (rest, ← size) (bytes-onto at xs b k)
+ahead-onto w at (refused f) b c k h = refl
+
+-- a list's own bytes are written
+whole-same : (m : ℕ) (i : Layout) (xs : List ℕ) {ys : List ℕ} → whole m i xs ≡ found ys → ys ≡ xs
+unfolding whole
+whole-same m i xs p =
+    let (e, listed, q) = next-found (list m (λ s a. read i s a) xs 0) _ p in
+    let (t, same) = when-found (eqb e (length xs)) _ _ q in
+    sym (found-same same)
+
+-- `l then m` is written as l, and from there on as m
+abbrev pub Joins : Layout → Layout → Type 0
+Joins l m = (ps qs : List Part) (src : List ℕ) (at : ℕ) → Shaped l ps → lay (l then m) (ps ++ qs) src at ≡ onto at (lay l ps src at) (λ e. lay m qs src e)
+
+stop-joins : (m : Layout) → Joins stop m
+unfolding lay _then_
+stop-joins m [] qs src at s = sym (onto-none at (λ e. lay m qs src e))
+stop-joins m (p ∷ ps) qs src at s = absurd s
+
+arm-joins : (v t : ℕ) (l m : Layout) → Joins l m → Joins (arm v t l) m
+unfolding lay _then_
+arm-joins v t l m joins [] qs src at s = absurd s
+arm-joins v t l m joins (num n ∷ ps) qs src at s = absurd s
+arm-joins v t l m joins (tag u ∷ ps) qs src at s =
+    when-onto at (eqb u t) (lay l ps src at) (lay (l then m) (ps ++ qs) src at) (mismatch at v) (λ e. lay m qs src e) (λ e. joins ps qs src at (s (eqb-true u t e)))
+arm-joins v t l m joins (span start len ∷ ps) qs src at s = absurd s
+
+number-joins : (w : ℕ) (r : Rule) (k : ℕ → Layout) (m : Layout) → ((n : ℕ) → Joins (k n) m) → Joins (number w r k) m
+unfolding lay _then_
+number-joins w r k m joins [] qs src at s = absurd s
+number-joins w r k m joins (num n ∷ ps) qs src at s =
+    ahead-onto w at (spelt w r n at) (lay (k n) ps src (at + w)) _ (λ e. lay m qs src e)
+    (λ xs p.
+    let (fits, a, same) = spelt-found w r n at p in
+    (ap length same ∙ length-digits w n, joins n ps qs src (at + w) (s .1 a)))
+number-joins w r k m joins (tag u ∷ ps) qs src at s = absurd s
+number-joins w r k m joins (span start len ∷ ps) qs src at s = absurd s
+
+plain-joins : (n : ℕ) (l m : Layout) → Joins l m → Joins (plain n l) m
+unfolding lay _then_
+plain-joins n l m joins [] qs src at s = absurd s
+plain-joins n l m joins (num i ∷ ps) qs src at s = absurd s
+plain-joins n l m joins (tag u ∷ ps) qs src at s = absurd s
+plain-joins n l m joins (span start len ∷ ps) qs src at s =
+    rw (eq-eqb len n (s .0))
+    (ahead-onto n at (cut src start len at) (lay l ps src (at + n)) _ (λ e. lay m qs src e)
+    (λ xs p. (cut-found src start len at p .0 ∙ s .0, joins ps qs src (at + n) (s .1))))
+
+buffer-joins : (w b : ℕ) (l m : Layout) → Joins l m → Joins (buffer w b l) m
+unfolding lay _then_
+buffer-joins w b l m joins [] qs src at s = absurd s
+buffer-joins w b l m joins (num n ∷ ps) qs src at s = absurd s
+buffer-joins w b l m joins (tag u ∷ ps) qs src at s = absurd s
+buffer-joins w b l m joins (span start len ∷ ps) qs src at s =
+    next-onto at (cut src start len at) _ _ (λ e. lay m qs src e)
+    (λ xs p. ahead-onto w at (spelt w (lengthTo b) len at) (ahead (found xs) (lay l ps src (at + w + len))) _ (λ e. lay m qs src e)
+    (λ ds q. (
+      ap length (spelt-found w (lengthTo b) len at q .2) ∙ length-digits w len,
+      ahead-onto len (at + w) (found xs) (lay l ps src (at + w + len)) _ (λ e. lay m qs src e)
+          (λ ys same. (ap length (sym (found-same same)) ∙ cut-found src start len at p .0, joins ps qs src (at + w + len) (s .1))),
+    )))
+
+counted-joins : (b : ℕ) (i l m : Layout) → Joins l m → Joins (counted b i l) m
+unfolding lay _then_
+counted-joins b i l m joins [] qs src at s = absurd s
+counted-joins b i l m joins (num n ∷ ps) qs src at s = absurd s
+counted-joins b i l m joins (tag u ∷ ps) qs src at s = absurd s
+counted-joins b i l m joins (span start len ∷ ps) qs src at s =
+    next-onto at (cut src start len at) _ _ (λ e. lay m qs src e)
+    (λ xs p. ahead-onto len at (moved at (whole b i xs)) (lay l ps src (at + len)) _ (λ e. lay m qs src e)
+    (λ ys q. (ap length (whole-same b i xs (moved-found at (whole b i xs) q)) ∙ cut-found src start len at p .0, joins ps qs src (at + len) s)))
+
+-- by induction on the layout: `l then m` is written as l, and from there on as m
+pub lay-then : (l m : Layout) → Joins l m
+unfolding lay _then_
+lay-then stop m = stop-joins m
+lay-then (noArm v) m = λ ps qs src at s. refl
+lay-then (arm v t l) m = arm-joins v t l m (lay-then l m)
+lay-then (number w r k) m = number-joins w r k m (λ n. lay-then (k n) m)
+lay-then (plain n l) m = plain-joins n l m (lay-then l m)
+lay-then (buffer w b l) m = buffer-joins w b l m (lay-then l m)
+lay-then (counted b i l) m = counted-joins b i l m (lay-then l m)
+
+-- ---- shapes
+
+-- parts of the shape of l, and behind them parts of the shape of m, have the shape of `l then m`
+pub shaped-then : (l m : Layout) (ps qs : List Part) → Shaped l ps → Shaped m qs → Shaped (l then m) (ps ++ qs)
+unfolding _then_
+shaped-then stop m [] qs s t = t
+shaped-then stop m (p ∷ ps) qs s t = absurd s
+shaped-then (noArm v) m ps qs s t = tt
+shaped-then (arm v a l) m [] qs s t = absurd s
+shaped-then (arm v a l) m (num n ∷ ps) qs s t = absurd s
+shaped-then (arm v a l) m (tag u ∷ ps) qs s t = λ e. shaped-then l m ps qs (s e) t
+shaped-then (arm v a l) m (span start len ∷ ps) qs s t = absurd s
+shaped-then (number w r k) m [] qs s t = absurd s
+shaped-then (number w r k) m (num n ∷ ps) qs s t = (s .0, λ a. shaped-then (k n) m ps qs (s .1 a) t)
+shaped-then (number w r k) m (tag u ∷ ps) qs s t = absurd s
+shaped-then (number w r k) m (span start len ∷ ps) qs s t = absurd s
+shaped-then (plain n l) m [] qs s t = absurd s
+shaped-then (plain n l) m (num i ∷ ps) qs s t = absurd s
+shaped-then (plain n l) m (tag u ∷ ps) qs s t = absurd s
+shaped-then (plain n l) m (span start len ∷ ps) qs s t = (s .0, shaped-then l m ps qs (s .1) t)
+shaped-then (buffer w b l) m [] qs s t = absurd s
+shaped-then (buffer w b l) m (num n ∷ ps) qs s t = absurd s
+shaped-then (buffer w b l) m (tag u ∷ ps) qs s t = absurd s
+shaped-then (buffer w b l) m (span start len ∷ ps) qs s t = (s .0, shaped-then l m ps qs (s .1) t)
+shaped-then (counted b i l) m [] qs s t = absurd s
+shaped-then (counted b i l) m (num n ∷ ps) qs s t = absurd s
+shaped-then (counted b i l) m (tag u ∷ ps) qs s t = absurd s
+shaped-then (counted b i l) m (span start len ∷ ps) qs s t = shaped-then l m ps qs s t

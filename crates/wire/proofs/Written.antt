@@ -23,7 +23,7 @@ use Rattle.wire.proofs.Prefix.{starts-read}
 
 -- ---- the writer's steps, at what can be written
 
-spelt-of : (w : ℕ) (r : Rule) (n at : ℕ) → n < 256 ^ w → allows r n ≡ true → spelt w r n at ≡ found (digits w n)
+pub spelt-of : (w : ℕ) (r : Rule) (n at : ℕ) → n < 256 ^ w → allows r n ≡ true → spelt w r n at ≡ found (digits w n)
 unfolding spelt
 spelt-of w r n at h a = rw (a, lt-ltb n (256 ^ w) h)
 
@@ -33,7 +33,7 @@ unfolding cut
 cut-of {src} {start} xs n at h i s = rw (le-leb (start + n) (length src) (stands-end n h i s), stands-same n h s)
 
 -- a spelled list is whole
-whole-of : {i : Layout} {n : ℕ} {ys : List ℕ} (m : ℕ) (xs : List ℕ) → n < 256 ^ 4 → n ≤ m → xs ≡ digits 4 n ++ ys → Items i n ys → whole m i xs ≡ found xs
+pub whole-of : {i : Layout} {n : ℕ} {ys : List ℕ} (m : ℕ) (xs : List ℕ) → n < 256 ^ 4 → n ≤ m → xs ≡ digits 4 n ++ ys → Items i n ys → whole m i xs ≡ found xs
 unfolding whole
 whole-of {i} {n} {ys} m xs h le c is =
     let s : Stands xs 0 xs = rw append-nil at (stands-start xs []) in
@@ -78,27 +78,27 @@ both-true : (s t : Bool) → (s && t) ≡ true → (s ≡ true) × (t ≡ true)
 both-true true t e = (refl, e)
 both-true false t e = absurd (false≢true e)
 
-ahead-found : (a k : Ans (List ℕ)) {bs : List ℕ} → ahead a k ≡ found bs → (xs : List ℕ) × (ys : List ℕ) × (a ≡ found xs) × (k ≡ found ys) × (bs ≡ xs ++ ys)
+pub ahead-found : (a k : Ans (List ℕ)) {bs : List ℕ} → ahead a k ≡ found bs → (xs : List ℕ) × (ys : List ℕ) × (a ≡ found xs) × (k ≡ found ys) × (bs ≡ xs ++ ys)
 ahead-found a k p =
     let (xs, e, q) = next-found a _ p in
     let (ys, f, g) = next-found k _ q in
     (xs, ys, e, f, sym (found-same g))
 
-spelt-found : (w : ℕ) (r : Rule) (n at : ℕ) {xs : List ℕ} → spelt w r n at ≡ found xs → (n < 256 ^ w) × (allows r n ≡ true) × (xs ≡ digits w n)
+pub spelt-found : (w : ℕ) (r : Rule) (n at : ℕ) {xs : List ℕ} → spelt w r n at ≡ found xs → (n < 256 ^ w) × (allows r n ≡ true) × (xs ≡ digits w n)
 unfolding spelt
 spelt-found w r n at p =
     let (t, e) = when-found (allows r n && ltb n (256 ^ w)) _ _ p in
     let (a, f) = both-true (allows r n) (ltb n (256 ^ w)) t in
     (ltb-true n (256 ^ w) f, a, sym (found-same e))
 
-cut-found : (src : List ℕ) (start len at : ℕ) {xs : List ℕ} → cut src start len at ≡ found xs → (length xs ≡ len) × Stands src start xs × (take len (drop start src) ≡ xs)
+pub cut-found : (src : List ℕ) (start len at : ℕ) {xs : List ℕ} → cut src start len at ≡ found xs → (length xs ≡ len) × Stands src start xs × (take len (drop start src) ≡ xs)
 unfolding cut
 cut-found src start len at {xs} p =
     let (t, e) = when-found (leb (start + len) (length src)) _ _ p in
     let (size, s) = stands-of src start len xs (omega (arith, leb-true (start + len) (length src) t)) (found-same e) in
     (size, s, found-same e)
 
-moved-found : {A : Type 0} (at : ℕ) (a : Ans A) {x : A} → moved at a ≡ found x → a ≡ found x
+pub moved-found : {A : Type 0} (at : ℕ) (a : Ans A) {x : A} → moved at a ≡ found x → a ≡ found x
 moved-found at (found y) p = p
 moved-found at (refused f) p = absurd (found-refused p)
 

@@ -63,6 +63,10 @@ moved at (refused f) = refused (further at f)
 abbrev pub ahead : Ans (List ℕ) → Ans (List ℕ) → Ans (List ℕ)
 ahead a k = next a (λ xs. next k (λ ys. found (xs ++ ys)))
 
+-- a's bytes from the place `at` on, and behind them what k gives for the place where they end
+abbrev pub onto : (at : ℕ) → Ans (List ℕ) → (ℕ → Ans (List ℕ)) → Ans (List ℕ)
+onto at a k = next a (λ xs. next (k (at + length xs)) (λ ys. found (xs ++ ys)))
+
 -- the bytes of the record of a layout with these parts, whose spans are of src; the place `at` counts from the output's start
 unfoldable pub lay : Layout → List Part → (src : List ℕ) (at : ℕ) → Ans (List ℕ)
 lay stop ps src at = end at ps (found [])
