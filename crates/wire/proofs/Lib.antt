@@ -10,6 +10,7 @@ pub mod Whole
 pub mod Faults
 pub mod Refused
 pub mod Written
+pub mod Unwritten
 pub mod Then
 pub mod Split
 pub mod Sizes

@@ -62,7 +62,7 @@ mutual
 
 -- ---- what is refused is to be refused so
 
-next-refused : {A B : Type 0} (a : Ans A) (k : A → Ans B) {f : Refusal} → next a k ≡ refused f → (a ≡ refused f) ⊎ ((x : A) × (a ≡ found x) × (k x ≡ refused f))
+pub next-refused : {A B : Type 0} (a : Ans A) (k : A → Ans B) {f : Refusal} → next a k ≡ refused f → (a ≡ refused f) ⊎ ((x : A) × (a ≡ found x) × (k x ≡ refused f))
 next-refused (found x) k p = inr (x, refl, p)
 next-refused (refused g) k p = inl (ap refused (refused-same p))
 
@@ -70,7 +70,7 @@ also-refused : (p : Part) (a : Ans Parsed) {f : Refusal} → also p a ≡ refuse
 also-refused p (found r) e = absurd (found-refused (sym e))
 also-refused p (refused g) e = e
 
-when-refused : {A : Type 0} (b : Bool) (x : A) (g : Refusal) {f : Refusal} → when b (found x) (refused g) ≡ refused f → (b ≡ false) × (f ≡ g)
+pub when-refused : {A : Type 0} (b : Bool) (x : A) (g : Refusal) {f : Refusal} → when b (found x) (refused g) ≡ refused f → (b ≡ false) × (f ≡ g)
 when-refused true x g p = absurd (found-refused (sym p))
 when-refused false x g p = (refl, sym (refused-same p))
 

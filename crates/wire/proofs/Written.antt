@@ -102,7 +102,7 @@ pub moved-found : {A : Type 0} (at : ℕ) (a : Ans A) {x : A} → moved at a ≡
 moved-found at (found y) p = p
 moved-found at (refused f) p = absurd (found-refused p)
 
-whole-found : (m : ℕ) (i : Layout) (xs : List ℕ) {ys : List ℕ} → Bytes xs → whole m i xs ≡ found ys
+pub whole-found : (m : ℕ) (i : Layout) (xs : List ℕ) {ys : List ℕ} → Bytes xs → whole m i xs ≡ found ys
     → (n : ℕ) × (zs : List ℕ) × (n < 256 ^ 4) × (n ≤ m) × (xs ≡ digits 4 n ++ zs) × Items i n zs × (ys ≡ xs)
 unfolding whole
 whole-found m i xs b p =
