@@ -20,9 +20,9 @@ use Rattle.wire.specs.Writing.{cut, spelt, whole, further, moved, ahead,
 use Rattle.wire.specs.Unwritten.{Spans, IsList, Shaped, Unwritten, arm-missing, arm-other, number-bad, plain-out, buffer-out, list-out, buffer-long, list-bad, list-trails, past-arm, past-number, past-plain, past-buffer, past-list}
 use Rattle.wire.proofs.Digits.{length-digits}
 use Rattle.wire.proofs.Stand.{stands-start, stands-back, stands-bytes}
-use Rattle.wire.proofs.Steps.{found-refused, found-same, refused-same}
+use Rattle.wire.proofs.Steps.{found-refused, found-same, refused-same, when-found}
 use Rattle.wire.proofs.Complete.{list-of, walk-complete}
-use Rattle.wire.proofs.Sound.{list-sound, read-sound}
+use Rattle.wire.proofs.Sound.{Listed, list-sound, read-sound}
 use Rattle.wire.proofs.Prefix.{starts-read}
 use Rattle.wire.proofs.Refused.{refuses-read, read-refuses, next-refused, when-refused}
 use Rattle.wire.proofs.Written.{spelt-of, whole-of, cut-found, moved-found, spelt-found, whole-found}
@@ -94,3 +94,205 @@ unwritten-lay {at = at} (past-list s x d) = rw (cut-spans at s, whole-list x, un
 -- so a record is refused in one way
 pub unwritten-once : {l : Layout} {ps : List Part} {src : List ℕ} {at : ℕ} {f g : Refusal} → Unwritten src l ps at f → Unwritten src l ps at g → f ≡ g
 unwritten-once d e = refused-same (sym (unwritten-lay d) ∙ unwritten-lay e)
+
+-- ---- shapes
+
+-- what goes on from the parts behind a field to the parts with it, for each field in its shape
+pub record Carried (P : Layout → List Part → Type 0) : Type 0 where
+  pub at-stop : P stop []
+  pub at-none : (v : ℕ) (ps : List Part) → P (noArm v) ps
+  pub at-arm : (v t : ℕ) (l : Layout) (u : ℕ) (ps : List Part) → (u ≡ t → P l ps) → P (arm v t l) (tag u ∷ ps)
+  pub at-number : (w : ℕ) (r : Rule) (k : ℕ → Layout) (n : ℕ) (ps : List Part) → n < 256 ^ w → (allows r n ≡ true → P (k n) ps) → P (number w r k) (num n ∷ ps)
+  pub at-plain : (n : ℕ) (l : Layout) (start : ℕ) (ps : List Part) → P l ps → P (plain n l) (span start n ∷ ps)
+  pub at-buffer : (w m : ℕ) (l : Layout) (start len : ℕ) (ps : List Part) → (len ≤ m → len < 256 ^ w) → P l ps → P (buffer w m l) (span start len ∷ ps)
+  pub at-counted : (m : ℕ) (i l : Layout) (start len : ℕ) (ps : List Part) → P l ps → P (counted m i l) (span start len ∷ ps)
+
+-- holds of all parts in the shape of a layout
+pub by-shape : (P : Layout → List Part → Type 0) → Carried P → (l : Layout) (ps : List Part) → Shaped l ps → P l ps
+by-shape P c stop [] s = c .at-stop
+by-shape P c stop (p ∷ ps) s = absurd s
+by-shape P c (noArm v) ps s = c .at-none v ps
+by-shape P c (arm v t l) [] s = absurd s
+by-shape P c (arm v t l) (num n ∷ ps) s = absurd s
+by-shape P c (arm v t l) (tag u ∷ ps) s = c .at-arm v t l u ps (λ e. by-shape P c l ps (s e))
+by-shape P c (arm v t l) (span start len ∷ ps) s = absurd s
+by-shape P c (number w r k) [] s = absurd s
+by-shape P c (number w r k) (num n ∷ ps) s = c .at-number w r k n ps (s .0) (λ a. by-shape P c (k n) ps (s .1 a))
+by-shape P c (number w r k) (tag u ∷ ps) s = absurd s
+by-shape P c (number w r k) (span start len ∷ ps) s = absurd s
+by-shape P c (plain n l) [] s = absurd s
+by-shape P c (plain n l) (num m ∷ ps) s = absurd s
+by-shape P c (plain n l) (tag u ∷ ps) s = absurd s
+by-shape P c (plain n l) (span start len ∷ ps) s = rw (s .0) (c .at-plain n l start ps (by-shape P c l ps (s .1)))
+by-shape P c (buffer w m l) [] s = absurd s
+by-shape P c (buffer w m l) (num n ∷ ps) s = absurd s
+by-shape P c (buffer w m l) (tag u ∷ ps) s = absurd s
+by-shape P c (buffer w m l) (span start len ∷ ps) s = c .at-buffer w m l start len ps (s .0) (by-shape P c l ps (s .1))
+by-shape P c (counted m i l) [] s = absurd s
+by-shape P c (counted m i l) (num n ∷ ps) s = absurd s
+by-shape P c (counted m i l) (tag u ∷ ps) s = absurd s
+by-shape P c (counted m i l) (span start len ∷ ps) s = c .at-counted m i l start len ps (by-shape P c l ps s)
+
+-- what is spelled has parts in the shape of its layout
+pub placed-shaped : {l : Layout} {ts : List Token} {bs : List ℕ} (d : Spells l ts bs) (at : ℕ) → Shaped l (placed d at)
+placed-shaped ends at = tt
+placed-shaped (holds d) at = λ e. placed-shaped d at
+placed-shaped (says {w} n h a e d) at = (h, λ a. placed-shaped d (at + w))
+placed-shaped (shows {n} xs h b e d) at = (refl, placed-shaped d (at + n))
+placed-shaped (sizes {w} xs h m b e d) at = (λ le. h, placed-shaped d (at + w + length xs))
+placed-shaped (counts {xs = xs} n h m c is e d) at = placed-shaped d (at + length xs)
+
+-- so what was read has
+pub read-shaped : (l : Layout) (src : List ℕ) (at : ℕ) (r : Parsed) → Bytes src → read l src at ≡ found r → Shaped l (r .parts)
+read-shaped l src at r b p =
+    let d = read-sound l src at r b p in
+    let parts : r .parts ≡ placed (d .spells) at = ap (λ q. q .parts) (found-same (sym p ∙ starts-read d)) in
+    rw parts (placed-shaped (d .spells) at)
+
+-- ---- what is refused of a record in shape may not be written
+
+spelt-refused : (w : ℕ) (r : Rule) (n at : ℕ) {f : Refusal} → (allows r n ≡ true → n < 256 ^ w) → spelt w r n at ≡ refused f → (allows r n ≡ false) × (f ≡ breach r at n)
+unfolding spelt
+spelt-refused w r n at {f} h p = go (allows r n) refl
+  where
+    go : (b : Bool) → allows r n ≡ b → (allows r n ≡ false) × (f ≡ breach r at n)
+    go true a = absurd (found-refused (sym (rw (a, lt-ltb n (256 ^ w) (h a)) at p)))
+    go false a = (a, sym (refused-same (rw a at p)))
+
+cut-refused : (src : List ℕ) (start len at : ℕ) {f : Refusal} → cut src start len at ≡ refused f → (length src < start + len) × (f ≡ badSpan at len)
+unfolding cut
+cut-refused src start len at p =
+    let (t, e) = when-refused (leb (start + len) (length src)) _ _ p in
+    (leb-false (start + len) (length src) t, e)
+
+cut-is : (src : List ℕ) (start len at : ℕ) {xs : List ℕ} → cut src start len at ≡ found xs → Spans src start len xs
+unfolding cut
+cut-is src start len at p =
+    let (t, e) = when-found (leb (start + len) (length src)) _ _ p in
+    record { within = leb-true (start + len) (length src) t; shows = found-same e }
+
+behind-refused : (xs : List ℕ) (a : Ans (List ℕ)) {f : Refusal} → ahead (found xs) a ≡ refused f → a ≡ refused f
+behind-refused xs (found ys) p = absurd (found-refused (sym p))
+behind-refused xs (refused g) p = p
+
+ahead-refused : (a k : Ans (List ℕ)) {f : Refusal} → ahead a k ≡ refused f → (a ≡ refused f) ⊎ ((xs : List ℕ) × (a ≡ found xs) × (k ≡ refused f))
+ahead-refused (found xs) k p = inr (xs, refl, behind-refused xs k p)
+ahead-refused (refused g) k p = inl (ap refused (refused-same p))
+
+moved-refused : {A : Type 0} (at : ℕ) (a : Ans A) {f : Refusal} → moved at a ≡ refused f → (g : Refusal) × (a ≡ refused g) × (f ≡ further at g)
+moved-refused at (found x) p = absurd (found-refused (sym p))
+moved-refused at (refused g) p = (g, refl, sym (refused-same p))
+
+-- of parts in the shape of l, whatever the writer refuses may not be written
+abbrev pub Explained : Layout → List Part → Type 0
+Explained l ps = (src : List ℕ) (at : ℕ) (f : Refusal) → Bytes src → lay l ps src at ≡ refused f → Unwritten src l ps at f
+
+stop-explained : Explained stop []
+unfolding lay
+stop-explained src at f b p = absurd (found-refused (sym p))
+
+none-explained : (v : ℕ) (ps : List Part) → Explained (noArm v) ps
+unfolding lay
+none-explained v ps src at f b p = arm-missing (sym (refused-same p))
+
+arm-explained : (v t : ℕ) (l : Layout) (u : ℕ) (ps : List Part) → (u ≡ t → Explained l ps) → Explained (arm v t l) (tag u ∷ ps)
+unfolding lay
+arm-explained v t l u ps told src at f b p = go (eqb u t) refl
+  where
+    go : (same : Bool) → eqb u t ≡ same → Unwritten src (arm v t l) (tag u ∷ ps) at f
+    go true e = let same = eqb-true u t e in rw same (past-arm (told same src at f b (rw e at p)))
+    go false e = arm-other (eqb-false u t e) (sym (refused-same (rw e at p)))
+
+number-explained : (w : ℕ) (r : Rule) (k : ℕ → Layout) (n : ℕ) (ps : List Part) → n < 256 ^ w → (allows r n ≡ true → Explained (k n) ps) → Explained (number w r k) (num n ∷ ps)
+unfolding lay
+number-explained w r k n ps h told src at f b p = go (ahead-refused (spelt w r n at) (lay (k n) ps src (at + w)) p)
+  where
+    go : (spelt w r n at ≡ refused f) ⊎ ((xs : List ℕ) × (spelt w r n at ≡ found xs) × (lay (k n) ps src (at + w) ≡ refused f)) → Unwritten src (number w r k) (num n ∷ ps) at f
+    go (inl e) = let (a, same) = spelt-refused w r n at (λ a. h) e in number-bad a same
+    go (inr t) = let a = spelt-found w r n at (t .1) .1 in past-number h a (told a src (at + w) f b (t .2))
+
+plain-explained : (n : ℕ) (l : Layout) (start : ℕ) (ps : List Part) → Explained l ps → Explained (plain n l) (span start n ∷ ps)
+unfolding lay
+plain-explained n l start ps told src at f b p = go (ahead-refused (cut src start n at) (lay l ps src (at + n)) (rw (eq-eqb n n refl) at p))
+  where
+    go : (cut src start n at ≡ refused f) ⊎ ((xs : List ℕ) × (cut src start n at ≡ found xs) × (lay l ps src (at + n) ≡ refused f)) → Unwritten src (plain n l) (span start n ∷ ps) at f
+    go (inl e) = let (h, same) = cut-refused src start n at e in plain-out h same
+    go (inr t) = past-plain (cut-is src start n at (t .1) .within) (told src (at + n) f b (t .2))
+
+buffer-explained : (w m : ℕ) (l : Layout) (start len : ℕ) (ps : List Part) → (len ≤ m → len < 256 ^ w) → Explained l ps → Explained (buffer w m l) (span start len ∷ ps)
+unfolding lay
+buffer-explained w m l start len ps h told src at f b p = go (next-refused (cut src start len at) _ p)
+  where
+    body : (xs : List ℕ) → start + len ≤ length src
+        → (spelt w (lengthTo m) len at ≡ refused f) ⊎ ((ds : List ℕ) × (spelt w (lengthTo m) len at ≡ found ds) × (ahead (found xs) (lay l ps src (at + w + len)) ≡ refused f)) → Unwritten src (buffer w m l) (span start len ∷ ps) at f
+    body xs i (inl e) =
+        let (a, same) = spelt-refused w (lengthTo m) len at (λ a. h (leb-true len m a)) e in
+        buffer-long i (leb-false len m a) same
+    body xs i (inr t) =
+        let (fits, a, same) = spelt-found w (lengthTo m) len at (t .1) in
+        past-buffer i (leb-true len m a) fits (told src (at + w + len) f b (behind-refused xs _ (t .2)))
+
+    go : (cut src start len at ≡ refused f)
+        ⊎ ((xs : List ℕ) × (cut src start len at ≡ found xs) × (ahead (spelt w (lengthTo m) len at) (ahead (found xs) (lay l ps src (at + w + len))) ≡ refused f)) → Unwritten src (buffer w m l) (span start len ∷ ps) at f
+    go (inl e) = let (out, same) = cut-refused src start len at e in buffer-out out same
+    go (inr t) = body (t .0) (cut-is src start len at (t .1) .within) (ahead-refused (spelt w (lengthTo m) len at) _ (t .2))
+
+-- a list that ends before its bytes do
+list-left : {src xs : List ℕ} {m start len at e : ℕ} {i l : Layout} {ps : List Part} {f : Refusal} → Spans src start len xs → Listed m i xs 0 e → (e ≡ length xs → ⊥)
+    → f ≡ trailing (at + e) (length xs - e) → Unwritten src (counted m i l) (span start len ∷ ps) at f
+list-left {xs = xs} {at = at} {e} {f = f} s x o same =
+    let hs : List ℕ = digits 4 (x .count) ++ x .items in
+    let zs : List ℕ = x .stands .rest in
+    let ended : e ≡ length hs = omega (arith, x .ends) in
+    let left : length xs - e ≡ length zs = omega (arith, ap length (x .stands .begins), length-append hs zs) in
+    let some : 0 < length zs = omega (arith, ap length (x .stands .begins), length-append hs zs) in
+    let trails : f ≡ trailing (at + length hs) (length zs) = rw (left, ended) at same in
+    list-trails zs s (record { count = x .count; fits = x .fits; most = x .most; items = x .items; whole = refl; spells = x .spells }) (x .stands .begins) some trails
+
+list-explained : {src xs : List ℕ} {m start len at : ℕ} {i l : Layout} {ps : List Part} {f g : Refusal} → Spans src start len xs → Bytes xs → whole m i xs ≡ refused g → f ≡ further at g
+    → Unwritten src (counted m i l) (span start len ∷ ps) at f
+unfolding whole read
+list-explained {src} {xs} {m} {start} {len} {at} {i} {l} {ps} {f} {g} s b p same = go (next-refused (list m (λ s a. read i s a) xs 0) _ p)
+  where
+    go : (list m (λ s a. read i s a) xs 0 ≡ refused g)
+        ⊎ ((e : ℕ) × (list m (λ s a. read i s a) xs 0 ≡ found e) × (when (eqb e (length xs)) (found xs) (refused (trailing e (length xs - e))) ≡ refused g)) → Unwritten src (counted m i l) (span start len ∷ ps) at f
+    go (inl e) = list-bad s (read-refuses (counted m i stop) xs 0 g b (rw e)) same
+    go (inr t) =
+        let (o, trails) = when-refused (eqb (t .0) (length xs)) _ _ (t .2) in
+        list-left s (list-sound m i (read-sound i) xs 0 b (t .1)) (eqb-false (t .0) (length xs) o) (same ∙ ap (λ g. further at g) trails)
+
+whole-is : (m : ℕ) (i : Layout) (xs : List ℕ) {ys : List ℕ} → Bytes xs → whole m i xs ≡ found ys → IsList m i xs
+whole-is m i xs b p =
+    let (n, zs, h, le, split, items, same) = whole-found m i xs b p in
+    record { count = n; fits = h; most = le; items = zs; whole = split; spells = items }
+
+counted-explained : (m : ℕ) (i l : Layout) (start len : ℕ) (ps : List Part) → Explained l ps → Explained (counted m i l) (span start len ∷ ps)
+unfolding lay
+counted-explained m i l start len ps told src at f b p = go (next-refused (cut src start len at) _ p)
+  where
+    body : (xs : List ℕ) → Bytes xs → Spans src start len xs
+        → (moved at (whole m i xs) ≡ refused f) ⊎ ((ys : List ℕ) × (moved at (whole m i xs) ≡ found ys) × (lay l ps src (at + len) ≡ refused f)) → Unwritten src (counted m i l) (span start len ∷ ps) at f
+    body xs c s (inl e) = let (g, bad, same) = moved-refused at (whole m i xs) e in list-explained s c bad same
+    body xs c s (inr t) = past-list s (whole-is m i xs c (moved-found at (whole m i xs) (t .1))) (told src (at + len) f b (t .2))
+
+    go : (cut src start len at ≡ refused f)
+        ⊎ ((xs : List ℕ) × (cut src start len at ≡ found xs) × (ahead (moved at (whole m i xs)) (lay l ps src (at + len)) ≡ refused f)) → Unwritten src (counted m i l) (span start len ∷ ps) at f
+    go (inl e) = let (out, same) = cut-refused src start len at e in list-out out same
+    go (inr t) =
+        body (t .0) (stands-bytes b (cut-found src start len at (t .1) .1)) (cut-is src start len at (t .1)) (ahead-refused (moved at (whole m i (t .0))) _ (t .2))
+
+explained : Carried Explained
+explained =
+    record {
+      at-stop = stop-explained;
+      at-none = none-explained;
+      at-arm = arm-explained;
+      at-number = number-explained;
+      at-plain = plain-explained;
+      at-buffer = buffer-explained;
+      at-counted = counted-explained;
+    }
+
+-- every refusal of a record in shape is one of those
+pub lay-unwritten : (l : Layout) (ps : List Part) (src : List ℕ) (at : ℕ) (f : Refusal) → Bytes src → Shaped l ps → lay l ps src at ≡ refused f → Unwritten src l ps at f
+lay-unwritten l ps src at f b s p = by-shape Explained explained l ps s src at f b p
