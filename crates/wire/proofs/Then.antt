@@ -1,6 +1,6 @@
 -- A layout behind another: it is read and written behind it. So a record in a record is read by its own reader, and written by its
 -- own writer. Assumes nothing.
-use Prim.Native.Nat.{ℕ, _+_, _-_}
+use Prim.Native.Nat.{ℕ, _+_, _-_, _^_, _≤_, _<_}
 use native.Mathlib.Nat.{add-assoc, add-zero}
 use mathlib.Core.Path.{_≡_, refl, sym, ap, _∙_}
 use mathlib.Core.Bool.{Bool, true, false}
@@ -12,12 +12,13 @@ use Rattle.wire.specs.Bytes.{digits}
 use Rattle.wire.specs.Grammar.{Token, Spells, ends, holds, says, shows, sizes, counts}
 use Rattle.wire.specs.declared.fault.Refusal.{Refusal}
 use Rattle.wire.specs.Faults.{mismatch}
-use Rattle.wire.specs.Layout.{Rule, Layout, stop, noArm, arm, number, plain, buffer, counted, _then_, lengthTo}
+use Rattle.wire.specs.Layout.{Rule, allows, Layout, stop, noArm, arm, number, plain, buffer, counted, _then_, lengthTo}
 use Rattle.wire.specs.Reading.{Part, num, tag, span, Ans, found, refused, Parsed, parsed, next, also, piece, field, when, list, read}
 use Rattle.wire.specs.Writing.{cut, spelt, whole, moved, ahead, onto, lay}
 use Rattle.wire.specs.Unwritten.{Shaped}
 use Rattle.wire.proofs.Digits.{length-digits}
 use Rattle.wire.proofs.Steps.{found-same, next-found, when-found}
+use Rattle.wire.proofs.Unwritten.{Carried, by-shape}
 use Rattle.wire.proofs.Written.{spelt-found, cut-found, moved-found}
 
 -- ---- layouts in a row
@@ -153,104 +154,85 @@ whole-same m i xs p =
     let (t, same) = when-found (eqb e (length xs)) _ _ q in
     sym (found-same same)
 
--- `l then m` is written as l, and from there on as m
-abbrev pub Joins : Layout → Layout → Type 0
-Joins l m = (ps qs : List Part) (src : List ℕ) (at : ℕ) → Shaped l ps → lay (l then m) (ps ++ qs) src at ≡ onto at (lay l ps src at) (λ e. lay m qs src e)
+-- the parts ps are laid as l, and those behind them as m
+abbrev pub Joins : Layout → Layout → List Part → Type 0
+Joins m l ps = (qs : List Part) (src : List ℕ) (at : ℕ) → lay (l then m) (ps ++ qs) src at ≡ onto at (lay l ps src at) (λ e. lay m qs src e)
 
-stop-joins : (m : Layout) → Joins stop m
+stop-joins : (m : Layout) → Joins m stop []
 unfolding lay _then_
-stop-joins m [] qs src at s = sym (onto-none at (λ e. lay m qs src e))
-stop-joins m (p ∷ ps) qs src at s = absurd s
+stop-joins m qs src at = sym (onto-none at (λ e. lay m qs src e))
 
-arm-joins : (v t : ℕ) (l m : Layout) → Joins l m → Joins (arm v t l) m
+no-arm-joins : (m : Layout) (v : ℕ) (ps : List Part) → Joins m (noArm v) ps
 unfolding lay _then_
-arm-joins v t l m joins [] qs src at s = absurd s
-arm-joins v t l m joins (num n ∷ ps) qs src at s = absurd s
-arm-joins v t l m joins (tag u ∷ ps) qs src at s =
-    when-onto at (eqb u t) (lay l ps src at) (lay (l then m) (ps ++ qs) src at) (mismatch at v) (λ e. lay m qs src e) (λ e. joins ps qs src at (s (eqb-true u t e)))
-arm-joins v t l m joins (span start len ∷ ps) qs src at s = absurd s
+no-arm-joins m v ps qs src at = refl
 
-number-joins : (w : ℕ) (r : Rule) (k : ℕ → Layout) (m : Layout) → ((n : ℕ) → Joins (k n) m) → Joins (number w r k) m
+arm-joins : (m : Layout) (v t : ℕ) (l : Layout) (u : ℕ) (ps : List Part) → (u ≡ t → Joins m l ps) → Joins m (arm v t l) (tag u ∷ ps)
 unfolding lay _then_
-number-joins w r k m joins [] qs src at s = absurd s
-number-joins w r k m joins (num n ∷ ps) qs src at s =
+arm-joins m v t l u ps joins qs src at =
+    when-onto at (eqb u t) (lay l ps src at) _ (mismatch at v) (λ e. lay m qs src e) (λ same. joins (eqb-true u t same) qs src at)
+
+number-joins : (m : Layout) (w : ℕ) (r : Rule) (k : ℕ → Layout) (n : ℕ) (ps : List Part) → n < 256 ^ w → (allows r n ≡ true → Joins m (k n) ps) → Joins m (number w r k) (num n ∷ ps)
+unfolding lay _then_
+number-joins m w r k n ps h joins qs src at =
     ahead-onto w at (spelt w r n at) (lay (k n) ps src (at + w)) _ (λ e. lay m qs src e)
-    (λ xs p.
-    let (fits, a, same) = spelt-found w r n at p in
-    (ap length same ∙ length-digits w n, joins n ps qs src (at + w) (s .1 a)))
-number-joins w r k m joins (tag u ∷ ps) qs src at s = absurd s
-number-joins w r k m joins (span start len ∷ ps) qs src at s = absurd s
+    (λ xs p. let (fits, a, same) = spelt-found w r n at p in (ap length same ∙ length-digits w n, joins a qs src (at + w)))
 
-plain-joins : (n : ℕ) (l m : Layout) → Joins l m → Joins (plain n l) m
+plain-joins : (m : Layout) (n : ℕ) (l : Layout) (start : ℕ) (ps : List Part) → Joins m l ps → Joins m (plain n l) (span start n ∷ ps)
 unfolding lay _then_
-plain-joins n l m joins [] qs src at s = absurd s
-plain-joins n l m joins (num i ∷ ps) qs src at s = absurd s
-plain-joins n l m joins (tag u ∷ ps) qs src at s = absurd s
-plain-joins n l m joins (span start len ∷ ps) qs src at s =
-    rw (eq-eqb len n (s .0))
-    (ahead-onto n at (cut src start len at) (lay l ps src (at + n)) _ (λ e. lay m qs src e)
-    (λ xs p. (cut-found src start len at p .0 ∙ s .0, joins ps qs src (at + n) (s .1))))
+plain-joins m n l start ps joins qs src at =
+    rw (eq-eqb n n refl)
+    (ahead-onto n at (cut src start n at) (lay l ps src (at + n)) _ (λ e. lay m qs src e)
+    (λ xs p. (cut-found src start n at p .0, joins qs src (at + n))))
 
-buffer-joins : (w b : ℕ) (l m : Layout) → Joins l m → Joins (buffer w b l) m
+buffer-joins : (m : Layout) (w b : ℕ) (l : Layout) (start len : ℕ) (ps : List Part) → (len ≤ b → len < 256 ^ w) → Joins m l ps → Joins m (buffer w b l) (span start len ∷ ps)
 unfolding lay _then_
-buffer-joins w b l m joins [] qs src at s = absurd s
-buffer-joins w b l m joins (num n ∷ ps) qs src at s = absurd s
-buffer-joins w b l m joins (tag u ∷ ps) qs src at s = absurd s
-buffer-joins w b l m joins (span start len ∷ ps) qs src at s =
-    next-onto at (cut src start len at) _ _ (λ e. lay m qs src e)
-    (λ xs p. ahead-onto w at (spelt w (lengthTo b) len at) (ahead (found xs) (lay l ps src (at + w + len))) _ (λ e. lay m qs src e)
+buffer-joins m w b l start len ps h joins qs src at =
+    let k : ℕ → Ans (List ℕ) = λ e. lay m qs src e in
+    let rest : Ans (List ℕ) = lay l ps src (at + w + len) in
+    next-onto at (cut src start len at) _ _ k
+    (λ xs p. ahead-onto w at (spelt w (lengthTo b) len at) (ahead (found xs) rest) _ k
     (λ ds q. (
       ap length (spelt-found w (lengthTo b) len at q .2) ∙ length-digits w len,
-      ahead-onto len (at + w) (found xs) (lay l ps src (at + w + len)) _ (λ e. lay m qs src e)
-          (λ ys same. (ap length (sym (found-same same)) ∙ cut-found src start len at p .0, joins ps qs src (at + w + len) (s .1))),
+      ahead-onto len (at + w) (found xs) rest _ k
+          (λ ys same. (ap length (sym (found-same same)) ∙ cut-found src start len at p .0, joins qs src (at + w + len))),
     )))
 
-counted-joins : (b : ℕ) (i l m : Layout) → Joins l m → Joins (counted b i l) m
+counted-joins : (m : Layout) (b : ℕ) (i l : Layout) (start len : ℕ) (ps : List Part) → Joins m l ps → Joins m (counted b i l) (span start len ∷ ps)
 unfolding lay _then_
-counted-joins b i l m joins [] qs src at s = absurd s
-counted-joins b i l m joins (num n ∷ ps) qs src at s = absurd s
-counted-joins b i l m joins (tag u ∷ ps) qs src at s = absurd s
-counted-joins b i l m joins (span start len ∷ ps) qs src at s =
+counted-joins m b i l start len ps joins qs src at =
     next-onto at (cut src start len at) _ _ (λ e. lay m qs src e)
     (λ xs p. ahead-onto len at (moved at (whole b i xs)) (lay l ps src (at + len)) _ (λ e. lay m qs src e)
-    (λ ys q. (ap length (whole-same b i xs (moved-found at (whole b i xs) q)) ∙ cut-found src start len at p .0, joins ps qs src (at + len) s)))
+    (λ ys q. (ap length (whole-same b i xs (moved-found at (whole b i xs) q)) ∙ cut-found src start len at p .0, joins qs src (at + len))))
 
--- by induction on the layout: `l then m` is written as l, and from there on as m
-pub lay-then : (l m : Layout) → Joins l m
-unfolding lay _then_
-lay-then stop m = stop-joins m
-lay-then (noArm v) m = λ ps qs src at s. refl
-lay-then (arm v t l) m = arm-joins v t l m (lay-then l m)
-lay-then (number w r k) m = number-joins w r k m (λ n. lay-then (k n) m)
-lay-then (plain n l) m = plain-joins n l m (lay-then l m)
-lay-then (buffer w b l) m = buffer-joins w b l m (lay-then l m)
-lay-then (counted b i l) m = counted-joins b i l m (lay-then l m)
+joined : (m : Layout) → Carried (Joins m)
+joined m =
+    record {
+      at-stop = stop-joins m;
+      at-no-arm = no-arm-joins m;
+      at-arm = arm-joins m;
+      at-number = number-joins m;
+      at-plain = plain-joins m;
+      at-buffer = buffer-joins m;
+      at-counted = counted-joins m;
+    }
 
--- ---- shapes
+-- `l then m` is written as l, and from there on as m
+pub lay-then : (l m : Layout) (ps qs : List Part) (src : List ℕ) (at : ℕ) → Shaped l ps → lay (l then m) (ps ++ qs) src at ≡ onto at (lay l ps src at) (λ e. lay m qs src e)
+lay-then l m ps qs src at s = by-shape (Joins m) (joined m) l ps s qs src at
 
--- parts of the shape of l, and behind them parts of the shape of m, have the shape of `l then m`
+-- parts in the shape of l, and behind them parts in the shape of m, are in the shape of `l then m`
 pub shaped-then : (l m : Layout) (ps qs : List Part) → Shaped l ps → Shaped m qs → Shaped (l then m) (ps ++ qs)
 unfolding _then_
-shaped-then stop m [] qs s t = t
-shaped-then stop m (p ∷ ps) qs s t = absurd s
-shaped-then (noArm v) m ps qs s t = tt
-shaped-then (arm v a l) m [] qs s t = absurd s
-shaped-then (arm v a l) m (num n ∷ ps) qs s t = absurd s
-shaped-then (arm v a l) m (tag u ∷ ps) qs s t = λ e. shaped-then l m ps qs (s e) t
-shaped-then (arm v a l) m (span start len ∷ ps) qs s t = absurd s
-shaped-then (number w r k) m [] qs s t = absurd s
-shaped-then (number w r k) m (num n ∷ ps) qs s t = (s .0, λ a. shaped-then (k n) m ps qs (s .1 a) t)
-shaped-then (number w r k) m (tag u ∷ ps) qs s t = absurd s
-shaped-then (number w r k) m (span start len ∷ ps) qs s t = absurd s
-shaped-then (plain n l) m [] qs s t = absurd s
-shaped-then (plain n l) m (num i ∷ ps) qs s t = absurd s
-shaped-then (plain n l) m (tag u ∷ ps) qs s t = absurd s
-shaped-then (plain n l) m (span start len ∷ ps) qs s t = (s .0, shaped-then l m ps qs (s .1) t)
-shaped-then (buffer w b l) m [] qs s t = absurd s
-shaped-then (buffer w b l) m (num n ∷ ps) qs s t = absurd s
-shaped-then (buffer w b l) m (tag u ∷ ps) qs s t = absurd s
-shaped-then (buffer w b l) m (span start len ∷ ps) qs s t = (s .0, shaped-then l m ps qs (s .1) t)
-shaped-then (counted b i l) m [] qs s t = absurd s
-shaped-then (counted b i l) m (num n ∷ ps) qs s t = absurd s
-shaped-then (counted b i l) m (tag u ∷ ps) qs s t = absurd s
-shaped-then (counted b i l) m (span start len ∷ ps) qs s t = shaped-then l m ps qs s t
+shaped-then l m ps qs s t = by-shape (λ l ps. Shaped (l then m) (ps ++ qs)) carried l ps s
+  where
+    carried : Carried (λ l ps. Shaped (l then m) (ps ++ qs))
+    carried =
+        record {
+          at-stop = t;
+          at-no-arm = λ v ps. tt;
+          at-arm = λ v a l u ps rest. rest;
+          at-number = λ w r k n ps h rest. (h, rest);
+          at-plain = λ n l start ps rest. (refl, rest);
+          at-buffer = λ w b l start len ps h rest. (h, rest);
+          at-counted = λ b i l start len ps rest. rest;
+        }

@@ -3,20 +3,19 @@ use Prim.Native.Nat.{ℕ, _+_, _-_, _^_, _≤_, _<_}
 use native.Mathlib.Nat.{zero-add}
 use native.Mathlib.Omega.{arith}
 use mathlib.Core.Path.{_≡_, refl, sym, ap, _∙_}
-use mathlib.Core.Logic.{_⊎_, inl, inr}
-use mathlib.Core.Bool.{Bool, true, false, _&&_}
+use mathlib.Core.Bool.{Bool, true, false}
 use mathlib.Core.List.{List, [], _∷_, _++_}
 use lib.ListN.{length, take, drop, length-append}
-use lib.Dec.{leb, ltb, eqb}
+use lib.Dec.{leb, eqb}
 use borrow.Author.Tests.{le-leb, lt-leb, lt-ltb, eq-eqb, ne-eqb, leb-true, leb-false, eqb-true, eqb-false}
 use Rattle.wire.specs.Bytes.{Bytes, digits}
 use Rattle.wire.specs.declared.fault.Refusal.{Refusal}
-use Rattle.wire.specs.Faults.{badSpan, tooLong, trailing, mismatch}
+use Rattle.wire.specs.Faults.{badSpan, trailing}
 use Rattle.wire.specs.Layout.{Rule, Layout, stop, noArm, arm, number, plain, buffer, counted, lengthTo, allows, breach}
-use Rattle.wire.specs.Reading.{Part, num, tag, span, Ans, found, refused, next, when, Parsed, list, read}
-use Rattle.wire.specs.Grammar.{Token, Spells, ends, holds, says, shows, sizes, counts, placed, Stands}
+use Rattle.wire.specs.Reading.{Part, num, tag, span, Ans, found, refused, next, Parsed, list, read}
+use Rattle.wire.specs.Grammar.{Token, Spells, ends, holds, says, shows, sizes, counts, placed}
 use Rattle.wire.specs.Refusals.{Refuses}
-use Rattle.wire.specs.Writing.{cut, spelt, whole, further, moved, ahead, lay}
+use Rattle.wire.specs.Writing.{cut, spelt, whole, further, moved, lay}
 use Rattle.wire.specs.Unwritten.{Spans, IsList, Shaped, Unwritten, arm-missing, arm-other, number-bad, plain-out, buffer-out, list-out, buffer-long, list-bad, list-trails, past-arm, past-number, past-plain, past-buffer, past-list}
 use Rattle.wire.proofs.Digits.{length-digits}
 use Rattle.wire.proofs.Stand.{stands-start, stands-back, stands-bytes}
@@ -24,7 +23,7 @@ use Rattle.wire.proofs.Steps.{found-refused, found-same, refused-same, 
 use Rattle.wire.proofs.Complete.{list-of, walk-complete}
 use Rattle.wire.proofs.Sound.{Listed, list-sound, read-sound}
 use Rattle.wire.proofs.Prefix.{starts-read}
-use Rattle.wire.proofs.Refused.{refuses-read, read-refuses, next-refused, when-refused}
+use Rattle.wire.proofs.Refused.{refuses-read, read-refuses, when-refused}
 use Rattle.wire.proofs.Written.{spelt-of, whole-of, cut-found, moved-found, spelt-found, whole-found}
 
 -- ---- what may not be written is refused so
@@ -55,7 +54,7 @@ list-walked {m} {i} {hs} zs x =
 whole-list : {m : ℕ} {i : Layout} {xs : List ℕ} → IsList m i xs → whole m i xs ≡ found xs
 whole-list {m} {i} {xs} x = whole-of m xs (x .fits) (x .most) (x .whole) (x .spells)
 
--- where the second step finds always, the first refuses
+-- if the second step always finds something, it is the first that refuses
 first-refused : {A B : Type 0} (a : Ans A) (k : A → B) {f : Refusal} → next a (λ x. found (k x)) ≡ refused f → a ≡ refused f
 first-refused (found x) k p = absurd (found-refused (sym p))
 first-refused (refused g) k p = ap refused (refused-same p)
@@ -97,21 +96,21 @@ unwritten-once d e = refused-same (sym (unwritten-lay d) ∙ unwritten-lay e)
 
 -- ---- shapes
 
--- what goes on from the parts behind a field to the parts with it, for each field in its shape
+-- P holds where nothing more is due, and each field in its shape carries it on, from what follows to the field and what follows
 pub record Carried (P : Layout → List Part → Type 0) : Type 0 where
   pub at-stop : P stop []
-  pub at-none : (v : ℕ) (ps : List Part) → P (noArm v) ps
+  pub at-no-arm : (v : ℕ) (ps : List Part) → P (noArm v) ps
   pub at-arm : (v t : ℕ) (l : Layout) (u : ℕ) (ps : List Part) → (u ≡ t → P l ps) → P (arm v t l) (tag u ∷ ps)
   pub at-number : (w : ℕ) (r : Rule) (k : ℕ → Layout) (n : ℕ) (ps : List Part) → n < 256 ^ w → (allows r n ≡ true → P (k n) ps) → P (number w r k) (num n ∷ ps)
   pub at-plain : (n : ℕ) (l : Layout) (start : ℕ) (ps : List Part) → P l ps → P (plain n l) (span start n ∷ ps)
   pub at-buffer : (w m : ℕ) (l : Layout) (start len : ℕ) (ps : List Part) → (len ≤ m → len < 256 ^ w) → P l ps → P (buffer w m l) (span start len ∷ ps)
   pub at-counted : (m : ℕ) (i l : Layout) (start len : ℕ) (ps : List Part) → P l ps → P (counted m i l) (span start len ∷ ps)
 
--- holds of all parts in the shape of a layout
+-- so it holds of all parts in the shape of a layout
 pub by-shape : (P : Layout → List Part → Type 0) → Carried P → (l : Layout) (ps : List Part) → Shaped l ps → P l ps
 by-shape P c stop [] s = c .at-stop
 by-shape P c stop (p ∷ ps) s = absurd s
-by-shape P c (noArm v) ps s = c .at-none v ps
+by-shape P c (noArm v) ps s = c .at-no-arm v ps
 by-shape P c (arm v t l) [] s = absurd s
 by-shape P c (arm v t l) (num n ∷ ps) s = absurd s
 by-shape P c (arm v t l) (tag u ∷ ps) s = c .at-arm v t l u ps (λ e. by-shape P c l ps (s e))
@@ -133,7 +132,7 @@ by-shape P c (counted m i l) (num n ∷ ps) s = absurd s
 by-shape P c (counted m i l) (tag u ∷ ps) s = absurd s
 by-shape P c (counted m i l) (span start len ∷ ps) s = c .at-counted m i l start len ps (by-shape P c l ps s)
 
--- what is spelled has parts in the shape of its layout
+-- the parts of what is spelled are in the shape of its layout
 pub placed-shaped : {l : Layout} {ts : List Token} {bs : List ℕ} (d : Spells l ts bs) (at : ℕ) → Shaped l (placed d at)
 placed-shaped ends at = tt
 placed-shaped (holds d) at = λ e. placed-shaped d at
@@ -142,9 +141,9 @@ placed-shaped (shows {n} xs h b e d) at = (refl, placed-shaped d (at + n))
 placed-shaped (sizes {w} xs h m b e d) at = (λ le. h, placed-shaped d (at + w + length xs))
 placed-shaped (counts {xs = xs} n h m c is e d) at = placed-shaped d (at + length xs)
 
--- so what was read has
-pub read-shaped : (l : Layout) (src : List ℕ) (at : ℕ) (r : Parsed) → Bytes src → read l src at ≡ found r → Shaped l (r .parts)
-read-shaped l src at r b p =
+-- and so are those of a record that was read
+pub shaped-of-read : (l : Layout) (src : List ℕ) (at : ℕ) (r : Parsed) → Bytes src → read l src at ≡ found r → Shaped l (r .parts)
+shaped-of-read l src at r b p =
     let d = read-sound l src at r b p in
     let parts : r .parts ≡ placed (d .spells) at = ap (λ q. q .parts) (found-same (sym p ∙ starts-read d)) in
     rw parts (placed-shaped (d .spells) at)
@@ -171,13 +170,10 @@ cut-is src start len at p =
     let (t, e) = when-found (leb (start + len) (length src)) _ _ p in
     record { within = leb-true (start + len) (length src) t; shows = found-same e }
 
-behind-refused : (xs : List ℕ) (a : Ans (List ℕ)) {f : Refusal} → ahead (found xs) a ≡ refused f → a ≡ refused f
-behind-refused xs (found ys) p = absurd (found-refused (sym p))
-behind-refused xs (refused g) p = p
-
-ahead-refused : (a k : Ans (List ℕ)) {f : Refusal} → ahead a k ≡ refused f → (a ≡ refused f) ⊎ ((xs : List ℕ) × (a ≡ found xs) × (k ≡ refused f))
-ahead-refused (found xs) k p = inr (xs, refl, behind-refused xs k p)
-ahead-refused (refused g) k p = inl (ap refused (refused-same p))
+-- the first step refuses, or it finds something and the second refuses
+first-or-second : {A B C : Type 0} (a : Ans A) (k : A → Ans B) {f : Refusal} → next a k ≡ refused f → (a ≡ refused f → C) → ((x : A) → a ≡ found x → k x ≡ refused f → C) → C
+first-or-second (found x) k p first second = second x refl p
+first-or-second (refused g) k p first second = first (ap refused (refused-same p))
 
 moved-refused : {A : Type 0} (at : ℕ) (a : Ans A) {f : Refusal} → moved at a ≡ refused f → (g : Refusal) × (a ≡ refused g) × (f ≡ further at g)
 moved-refused at (found x) p = absurd (found-refused (sym p))
@@ -191,9 +187,9 @@ stop-explained : Explained stop []
 unfolding lay
 stop-explained src at f b p = absurd (found-refused (sym p))
 
-none-explained : (v : ℕ) (ps : List Part) → Explained (noArm v) ps
+no-arm-explained : (v : ℕ) (ps : List Part) → Explained (noArm v) ps
 unfolding lay
-none-explained v ps src at f b p = arm-missing (sym (refused-same p))
+no-arm-explained v ps src at f b p = arm-missing (sym (refused-same p))
 
 arm-explained : (v t : ℕ) (l : Layout) (u : ℕ) (ps : List Part) → (u ≡ t → Explained l ps) → Explained (arm v t l) (tag u ∷ ps)
 unfolding lay
@@ -205,37 +201,27 @@ arm-explained v t l u ps told src at f b p = go (eqb u t) refl
 
 number-explained : (w : ℕ) (r : Rule) (k : ℕ → Layout) (n : ℕ) (ps : List Part) → n < 256 ^ w → (allows r n ≡ true → Explained (k n) ps) → Explained (number w r k) (num n ∷ ps)
 unfolding lay
-number-explained w r k n ps h told src at f b p = go (ahead-refused (spelt w r n at) (lay (k n) ps src (at + w)) p)
-  where
-    go : (spelt w r n at ≡ refused f) ⊎ ((xs : List ℕ) × (spelt w r n at ≡ found xs) × (lay (k n) ps src (at + w) ≡ refused f)) → Unwritten src (number w r k) (num n ∷ ps) at f
-    go (inl e) = let (a, same) = spelt-refused w r n at (λ a. h) e in number-bad a same
-    go (inr t) = let a = spelt-found w r n at (t .1) .1 in past-number h a (told a src (at + w) f b (t .2))
+number-explained w r k n ps h told src at f b p =
+    first-or-second (spelt w r n at) _ p
+    (λ e. let (a, same) = spelt-refused w r n at (λ a. h) e in number-bad a same)
+    (λ ds e q. let a = spelt-found w r n at e .1 in past-number h a (told a src (at + w) f b (first-refused _ _ q)))
 
 plain-explained : (n : ℕ) (l : Layout) (start : ℕ) (ps : List Part) → Explained l ps → Explained (plain n l) (span start n ∷ ps)
 unfolding lay
-plain-explained n l start ps told src at f b p = go (ahead-refused (cut src start n at) (lay l ps src (at + n)) (rw (eq-eqb n n refl) at p))
-  where
-    go : (cut src start n at ≡ refused f) ⊎ ((xs : List ℕ) × (cut src start n at ≡ found xs) × (lay l ps src (at + n) ≡ refused f)) → Unwritten src (plain n l) (span start n ∷ ps) at f
-    go (inl e) = let (h, same) = cut-refused src start n at e in plain-out h same
-    go (inr t) = past-plain (cut-is src start n at (t .1) .within) (told src (at + n) f b (t .2))
+plain-explained n l start ps told src at f b p =
+    first-or-second (cut src start n at) _ (rw (eq-eqb n n refl) at p)
+    (λ e. let (h, same) = cut-refused src start n at e in plain-out h same)
+    (λ xs e q. past-plain (cut-is src start n at e .within) (told src (at + n) f b (first-refused _ _ q)))
 
 buffer-explained : (w m : ℕ) (l : Layout) (start len : ℕ) (ps : List Part) → (len ≤ m → len < 256 ^ w) → Explained l ps → Explained (buffer w m l) (span start len ∷ ps)
 unfolding lay
-buffer-explained w m l start len ps h told src at f b p = go (next-refused (cut src start len at) _ p)
-  where
-    body : (xs : List ℕ) → start + len ≤ length src
-        → (spelt w (lengthTo m) len at ≡ refused f) ⊎ ((ds : List ℕ) × (spelt w (lengthTo m) len at ≡ found ds) × (ahead (found xs) (lay l ps src (at + w + len)) ≡ refused f)) → Unwritten src (buffer w m l) (span start len ∷ ps) at f
-    body xs i (inl e) =
-        let (a, same) = spelt-refused w (lengthTo m) len at (λ a. h (leb-true len m a)) e in
-        buffer-long i (leb-false len m a) same
-    body xs i (inr t) =
-        let (fits, a, same) = spelt-found w (lengthTo m) len at (t .1) in
-        past-buffer i (leb-true len m a) fits (told src (at + w + len) f b (behind-refused xs _ (t .2)))
-
-    go : (cut src start len at ≡ refused f)
-        ⊎ ((xs : List ℕ) × (cut src start len at ≡ found xs) × (ahead (spelt w (lengthTo m) len at) (ahead (found xs) (lay l ps src (at + w + len))) ≡ refused f)) → Unwritten src (buffer w m l) (span start len ∷ ps) at f
-    go (inl e) = let (out, same) = cut-refused src start len at e in buffer-out out same
-    go (inr t) = body (t .0) (cut-is src start len at (t .1) .within) (ahead-refused (spelt w (lengthTo m) len at) _ (t .2))
+buffer-explained w m l start len ps h told src at f b p =
+    first-or-second (cut src start len at) _ p
+    (λ e. let (out, same) = cut-refused src start len at e in buffer-out out same)
+    (λ xs e q. let i = cut-is src start len at e .within in
+    first-or-second (spelt w (lengthTo m) len at) _ q
+    (λ e. let (a, same) = spelt-refused w (lengthTo m) len at (λ a. h (leb-true len m a)) e in buffer-long i (leb-false len m a) same)
+    (λ ds e q. let (fits, a, same) = spelt-found w (lengthTo m) len at e in past-buffer i (leb-true len m a) fits (told src (at + w + len) f b (first-refused _ _ (first-refused _ _ q)))))
 
 -- a list that ends before its bytes do
 list-left : {src xs : List ℕ} {m start len at e : ℕ} {i l : Layout} {ps : List Part} {f : Refusal} → Spans src start len xs → Listed m i xs 0 e → (e ≡ length xs → ⊥)
@@ -252,14 +238,11 @@ list-left {xs = xs} {at = at} {e} {f = f} s x o same =
 list-explained : {src xs : List ℕ} {m start len at : ℕ} {i l : Layout} {ps : List Part} {f g : Refusal} → Spans src start len xs → Bytes xs → whole m i xs ≡ refused g → f ≡ further at g
     → Unwritten src (counted m i l) (span start len ∷ ps) at f
 unfolding whole read
-list-explained {src} {xs} {m} {start} {len} {at} {i} {l} {ps} {f} {g} s b p same = go (next-refused (list m (λ s a. read i s a) xs 0) _ p)
-  where
-    go : (list m (λ s a. read i s a) xs 0 ≡ refused g)
-        ⊎ ((e : ℕ) × (list m (λ s a. read i s a) xs 0 ≡ found e) × (when (eqb e (length xs)) (found xs) (refused (trailing e (length xs - e))) ≡ refused g)) → Unwritten src (counted m i l) (span start len ∷ ps) at f
-    go (inl e) = list-bad s (read-refuses (counted m i stop) xs 0 g b (rw e)) same
-    go (inr t) =
-        let (o, trails) = when-refused (eqb (t .0) (length xs)) _ _ (t .2) in
-        list-left s (list-sound m i (read-sound i) xs 0 b (t .1)) (eqb-false (t .0) (length xs) o) (same ∙ ap (λ g. further at g) trails)
+list-explained {xs = xs} {m} {at = at} {i} {g = g} s b p same =
+    first-or-second (list m (λ s a. read i s a) xs 0) _ p
+    (λ e. list-bad s (read-refuses (counted m i stop) xs 0 g b (rw e)) same)
+    (λ e walked q. let (o, trails) = when-refused (eqb e (length xs)) _ _ q in
+    list-left s (list-sound m i (read-sound i) xs 0 b walked) (eqb-false e (length xs) o) (same ∙ ap (λ g. further at g) trails))
 
 whole-is : (m : ℕ) (i : Layout) (xs : List ℕ) {ys : List ℕ} → Bytes xs → whole m i xs ≡ found ys → IsList m i xs
 whole-is m i xs b p =
@@ -268,24 +251,20 @@ whole-is m i xs b p =
 
 counted-explained : (m : ℕ) (i l : Layout) (start len : ℕ) (ps : List Part) → Explained l ps → Explained (counted m i l) (span start len ∷ ps)
 unfolding lay
-counted-explained m i l start len ps told src at f b p = go (next-refused (cut src start len at) _ p)
-  where
-    body : (xs : List ℕ) → Bytes xs → Spans src start len xs
-        → (moved at (whole m i xs) ≡ refused f) ⊎ ((ys : List ℕ) × (moved at (whole m i xs) ≡ found ys) × (lay l ps src (at + len) ≡ refused f)) → Unwritten src (counted m i l) (span start len ∷ ps) at f
-    body xs c s (inl e) = let (g, bad, same) = moved-refused at (whole m i xs) e in list-explained s c bad same
-    body xs c s (inr t) = past-list s (whole-is m i xs c (moved-found at (whole m i xs) (t .1))) (told src (at + len) f b (t .2))
-
-    go : (cut src start len at ≡ refused f)
-        ⊎ ((xs : List ℕ) × (cut src start len at ≡ found xs) × (ahead (moved at (whole m i xs)) (lay l ps src (at + len)) ≡ refused f)) → Unwritten src (counted m i l) (span start len ∷ ps) at f
-    go (inl e) = let (out, same) = cut-refused src start len at e in list-out out same
-    go (inr t) =
-        body (t .0) (stands-bytes b (cut-found src start len at (t .1) .1)) (cut-is src start len at (t .1)) (ahead-refused (moved at (whole m i (t .0))) _ (t .2))
+counted-explained m i l start len ps told src at f b p =
+    first-or-second (cut src start len at) _ p
+    (λ e. let (out, same) = cut-refused src start len at e in list-out out same)
+    (λ xs e q. let s = cut-is src start len at e in
+    let c = stands-bytes b (cut-found src start len at e .1) in
+    first-or-second (moved at (whole m i xs)) _ q
+    (λ e. let (g, bad, same) = moved-refused at (whole m i xs) e in list-explained s c bad same)
+    (λ ys e q. past-list s (whole-is m i xs c (moved-found at (whole m i xs) e)) (told src (at + len) f b (first-refused _ _ q))))
 
 explained : Carried Explained
 explained =
     record {
       at-stop = stop-explained;
-      at-none = none-explained;
+      at-no-arm = no-arm-explained;
       at-arm = arm-explained;
       at-number = number-explained;
       at-plain = plain-explained;

@@ -78,7 +78,7 @@ both-true : (s t : Bool) → (s && t) ≡ true → (s ≡ true) × (t ≡ true)
 both-true true t e = (refl, e)
 both-true false t e = absurd (false≢true e)
 
-pub ahead-found : (a k : Ans (List ℕ)) {bs : List ℕ} → ahead a k ≡ found bs → (xs : List ℕ) × (ys : List ℕ) × (a ≡ found xs) × (k ≡ found ys) × (bs ≡ xs ++ ys)
+ahead-found : (a k : Ans (List ℕ)) {bs : List ℕ} → ahead a k ≡ found bs → (xs : List ℕ) × (ys : List ℕ) × (a ≡ found xs) × (k ≡ found ys) × (bs ≡ xs ++ ys)
 ahead-found a k p =
     let (xs, e, q) = next-found a _ p in
     let (ys, f, g) = next-found k _ q in
