@@ -2,6 +2,7 @@ pub mod Answers
 pub mod Bytes
 pub mod Faults
 pub mod Layout
+pub mod Unions
 pub mod Reading
 pub mod Grammar
 pub mod Refusals

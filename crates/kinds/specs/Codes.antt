@@ -1,0 +1,196 @@
+-- The codes that are listed, and the registry's names of those that are used. Assumes nothing.
+use Prim.Native.Nat.{ℕ, zero, suc, _+_, _-_}
+use mathlib.Core.Bool.{Bool, false, _||_}
+use mathlib.Core.List.{List, [], _∷_, _++_}
+use lib.Dec.{eqb}
+use Rattle.wire.specs.Layout.{Rule, listed, fixed}
+
+-- n numbers one after the other, from lo on
+abbrev pub row : (n lo : ℕ) → List ℕ
+row zero lo = []
+row (suc n) lo = lo ∷ row n (lo + 1)
+
+-- the numbers from lo to hi
+abbrev pub from : (lo hi : ℕ) → List ℕ
+from lo hi = row (hi + 1 - lo) lo
+
+abbrev pub member : List ℕ → ℕ → Bool
+member [] n = false
+member (x ∷ xs) n = eqb n x || member xs n
+
+-- the 44 algorithms
+unfoldable pub algorithms : List ℕ
+algorithms =
+    from 0x01 0x01 ++ (from 0x03 0x08 ++ (from 0x0A 0x0D ++ (from 0x10 0x10 ++ (from 0x12 0x1D ++ (from 0x20 0x23 ++ (from 0x25 0x2E ++ from 0x3F 0x44))))))
+
+-- the 14 curves
+unfoldable pub curves : List ℕ
+curves = from 0x00 0x05 ++ (from 0x10 0x11 ++ (from 0x20 0x20 ++ (from 0x30 0x32 ++ from 0x40 0x41)))
+
+-- the 8 attestation types
+unfoldable pub attestations : List ℕ
+attestations = from 0x8014 0x801A ++ from 0x801C 0x801C
+
+-- what a field of each takes
+unfoldable pub isAlgorithm : ℕ → Bool
+isAlgorithm n = member algorithms n
+
+unfoldable pub isCurve : ℕ → Bool
+isCurve n = member curves n
+
+unfoldable pub isAttestation : ℕ → Bool
+isAttestation n = member attestations n
+
+abbrev pub alg : Rule
+alg = listed (λ n. isAlgorithm n)
+
+abbrev pub curve : Rule
+curve = listed (λ n. isCurve n)
+
+abbrev pub attestation : Rule
+attestation = listed (λ n. isAttestation n)
+
+-- no, 0, or yes, 1
+abbrev pub isYesNo : ℕ → Bool
+isYesNo n = eqb n 0 || eqb n 1
+
+abbrev pub yesNo : Rule
+yesNo = fixed (λ n. isYesNo n)
+
+-- the magic of what a TPM made itself: FF, and TCG
+abbrev pub isMagic : ℕ → Bool
+isMagic n = eqb n 0xFF544347
+
+abbrev pub magic : Rule
+magic = fixed (λ n. isMagic n)
+
+-- ---- the registry's names
+
+abbrev pub rsa : ℕ
+rsa = 0x01
+
+abbrev pub sha1 : ℕ
+sha1 = 0x04
+
+abbrev pub hmac : ℕ
+hmac = 0x05
+
+abbrev pub aes : ℕ
+aes = 0x06
+
+abbrev pub mgf1 : ℕ
+mgf1 = 0x07
+
+abbrev pub keyedHash : ℕ
+keyedHash = 0x08
+
+abbrev pub xor : ℕ
+xor = 0x0A
+
+abbrev pub sha256 : ℕ
+sha256 = 0x0B
+
+abbrev pub sha384 : ℕ
+sha384 = 0x0C
+
+abbrev pub sha512 : ℕ
+sha512 = 0x0D
+
+abbrev pub null : ℕ
+null = 0x10
+
+abbrev pub sm3-256 : ℕ
+sm3-256 = 0x12
+
+abbrev pub sm4 : ℕ
+sm4 = 0x13
+
+abbrev pub rsassa : ℕ
+rsassa = 0x14
+
+abbrev pub rsaes : ℕ
+rsaes = 0x15
+
+abbrev pub rsapss : ℕ
+rsapss = 0x16
+
+abbrev pub oaep : ℕ
+oaep = 0x17
+
+abbrev pub ecdsa : ℕ
+ecdsa = 0x18
+
+abbrev pub ecdh : ℕ
+ecdh = 0x19
+
+abbrev pub ecdaa : ℕ
+ecdaa = 0x1A
+
+abbrev pub sm2 : ℕ
+sm2 = 0x1B
+
+abbrev pub ecschnorr : ℕ
+ecschnorr = 0x1C
+
+abbrev pub ecmqv : ℕ
+ecmqv = 0x1D
+
+abbrev pub kdf1-sp800-56a : ℕ
+kdf1-sp800-56a = 0x20
+
+abbrev pub kdf2 : ℕ
+kdf2 = 0x21
+
+abbrev pub kdf1-sp800-108 : ℕ
+kdf1-sp800-108 = 0x22
+
+abbrev pub ecc : ℕ
+ecc = 0x23
+
+abbrev pub symCipher : ℕ
+symCipher = 0x25
+
+abbrev pub camellia : ℕ
+camellia = 0x26
+
+abbrev pub sha3-256 : ℕ
+sha3-256 = 0x27
+
+abbrev pub sha3-384 : ℕ
+sha3-384 = 0x28
+
+abbrev pub sha3-512 : ℕ
+sha3-512 = 0x29
+
+abbrev pub shake256-192 : ℕ
+shake256-192 = 0x2C
+
+abbrev pub shake256-256 : ℕ
+shake256-256 = 0x2D
+
+abbrev pub shake256-512 : ℕ
+shake256-512 = 0x2E
+
+abbrev pub attestNv : ℕ
+attestNv = 0x8014
+
+abbrev pub attestCommandAudit : ℕ
+attestCommandAudit = 0x8015
+
+abbrev pub attestSessionAudit : ℕ
+attestSessionAudit = 0x8016
+
+abbrev pub attestCertify : ℕ
+attestCertify = 0x8017
+
+abbrev pub attestQuote : ℕ
+attestQuote = 0x8018
+
+abbrev pub attestTime : ℕ
+attestTime = 0x8019
+
+abbrev pub attestCreation : ℕ
+attestCreation = 0x801A
+
+abbrev pub attestNvDigest : ℕ
+attestNvDigest = 0x801C

@@ -1,0 +1,3 @@
+pub mod Codes
+pub mod Tables
+pub mod Kinds
