@@ -1,0 +1,3 @@
+pub mod Choices
+pub mod Greatest
+pub mod Samples

@@ -7,7 +7,7 @@ use lib.Dec.{leb, ltb}
 use Rattle.wire.specs.Faults.{badKind}
 use Rattle.wire.specs.Layout.{Layout, stop, noArm, number, plain, buffer, counted, one, free, _then_}
 use Rattle.wire.specs.Reading.{Reader, Parsed, refused, when, read}
-use Rattle.wire.specs.Unions.{union, case, by}
+use Rattle.wire.specs.Unions.{Case, union, case, by}
 use Rattle.kinds.specs.Codes.{alg, curve, attestation, yesNo, magic, rsa, hmac, aes, mgf1, keyedHash, xor, sm4, rsassa, rsapss, ecdsa, ecdaa, sm2, ecschnorr, kdf1-sp800-56a, kdf2, kdf1-sp800-108, ecc, symCipher, camellia, attestNv, attestCommandAudit, attestSessionAudit, attestCertify, attestQuote, attestTime, attestCreation, attestNvDigest}
 use Rattle.kinds.specs.Tables.{digestArm, asymArm, sigArm, keyedhashArm, kdfArm, cipherArm, typeArm, sensitiveArm, signatureArm, attestArm}
 
@@ -71,29 +71,41 @@ unfoldable pub sigBy : ℕ → Layout
 sigBy v = union (sigArm v) sigBody v
 
 -- TPMU_SCHEME_KEYEDHASH: XOR has a hash code and a KDF code
+abbrev pub keyedhashCases : List Case
+keyedhashCases = case hmac schemeHash ∷ case xor (number 2 alg (λ hashAlg. one 2 alg)) ∷ []
+
 abbrev pub keyedhashBody : ℕ → Layout
-keyedhashBody t = by (case hmac schemeHash ∷ case xor (number 2 alg (λ hashAlg. one 2 alg)) ∷ []) t
+keyedhashBody t = by keyedhashCases t
 
 unfoldable pub keyedhashBy : ℕ → Layout
 keyedhashBy v = union (keyedhashArm v) keyedhashBody v
 
 -- TPMU_KDF_SCHEME
+abbrev pub kdfCases : List Case
+kdfCases = case mgf1 schemeHash ∷ case kdf1-sp800-56a schemeHash ∷ case kdf2 schemeHash ∷ case kdf1-sp800-108 schemeHash ∷ []
+
 abbrev pub kdfBody : ℕ → Layout
-kdfBody t = by (case mgf1 schemeHash ∷ case kdf1-sp800-56a schemeHash ∷ case kdf2 schemeHash ∷ case kdf1-sp800-108 schemeHash ∷ []) t
+kdfBody t = by kdfCases t
 
 unfoldable pub kdfBy : ℕ → Layout
 kdfBy v = union (kdfArm v) kdfBody v
 
 -- TPMU_SYM_KEY_BITS: key bits, which are no count of bytes; of XOR a hash code
+abbrev pub keyBitsCases : List Case
+keyBitsCases = case aes (one 2 free) ∷ case sm4 (one 2 free) ∷ case camellia (one 2 free) ∷ case xor (one 2 alg) ∷ []
+
 abbrev pub keyBitsBody : ℕ → Layout
-keyBitsBody t = by (case aes (one 2 free) ∷ case sm4 (one 2 free) ∷ case camellia (one 2 free) ∷ case xor (one 2 alg) ∷ []) t
+keyBitsBody t = by keyBitsCases t
 
 unfoldable pub keyBitsBy : ℕ → Layout
 keyBitsBy v = union (cipherArm v) keyBitsBody v
 
 -- TPMU_SYM_MODE: a mode; XOR has one too, as in the crate
+abbrev pub modeCases : List Case
+modeCases = case aes (one 2 alg) ∷ case sm4 (one 2 alg) ∷ case camellia (one 2 alg) ∷ case xor (one 2 alg) ∷ []
+
 abbrev pub modeBody : ℕ → Layout
-modeBody t = by (case aes (one 2 alg) ∷ case sm4 (one 2 alg) ∷ case camellia (one 2 alg) ∷ case xor (one 2 alg) ∷ []) t
+modeBody t = by modeCases t
 
 unfoldable pub modeBy : ℕ → Layout
 modeBy v = union (cipherArm v) modeBody v
@@ -141,8 +153,11 @@ eccParms =
     then number 2 curve (λ curveID. kdfScheme)
 
 -- TPMU_PUBLIC_PARMS
+abbrev pub parmsCases : List Case
+parmsCases = case keyedHash keyedhashScheme ∷ case symCipher symDef ∷ case rsa rsaParms ∷ case ecc eccParms ∷ []
+
 abbrev pub parmsBody : ℕ → Layout
-parmsBody t = by (case keyedHash keyedhashScheme ∷ case symCipher symDef ∷ case rsa rsaParms ∷ case ecc eccParms ∷ []) t
+parmsBody t = by parmsCases t
 
 unfoldable pub parmsBy : ℕ → Layout
 parmsBy v = union (typeArm v) parmsBody v
@@ -152,15 +167,21 @@ unfoldable pub eccPoint : Layout
 eccPoint = eccParameter (eccParameter stop)
 
 -- TPMU_PUBLIC_ID
+abbrev pub uniqueCases : List Case
+uniqueCases = case keyedHash (digest stop) ∷ case symCipher (symKey stop) ∷ case rsa (publicKeyRsa stop) ∷ case ecc eccPoint ∷ []
+
 abbrev pub uniqueBody : ℕ → Layout
-uniqueBody t = by (case keyedHash (digest stop) ∷ case symCipher (symKey stop) ∷ case rsa (publicKeyRsa stop) ∷ case ecc eccPoint ∷ []) t
+uniqueBody t = by uniqueCases t
 
 unfoldable pub uniqueBy : ℕ → Layout
 uniqueBy v = union (typeArm v) uniqueBody v
 
 -- TPMU_SENSITIVE_COMPOSITE
+abbrev pub sensitiveCases : List Case
+sensitiveCases = case rsa (privateData stop) ∷ case ecc (eccParameter stop) ∷ case keyedHash (privateData stop) ∷ case symCipher (symKey stop) ∷ []
+
 abbrev pub sensitiveBody : ℕ → Layout
-sensitiveBody t = by (case rsa (privateData stop) ∷ case ecc (eccParameter stop) ∷ case keyedHash (privateData stop) ∷ case symCipher (symKey stop) ∷ []) t
+sensitiveBody t = by sensitiveCases t
 
 unfoldable pub sensitiveBy : ℕ → Layout
 sensitiveBy v = union (sensitiveArm v) sensitiveBody v
@@ -174,14 +195,14 @@ unfoldable pub signatureEcc : Layout
 signatureEcc = number 2 alg (λ hashAlg. eccParameter (eccParameter stop))
 
 -- TPMU_SIGNATURE
-abbrev pub signatureBody : ℕ → Layout
-signatureBody t =
-    by (
-    case rsassa signatureRsa ∷ case rsapss signatureRsa
+abbrev pub signatureCases : List Case
+signatureCases = case rsassa signatureRsa ∷ case rsapss signatureRsa
     ∷ case ecdsa signatureEcc ∷ case ecdaa signatureEcc ∷ case sm2 signatureEcc ∷ case ecschnorr signatureEcc
     ∷ case hmac ha
     ∷ []
-    ) t
+
+abbrev pub signatureBody : ℕ → Layout
+signatureBody t = by signatureCases t
 
 unfoldable pub signatureBy : ℕ → Layout
 signatureBy v = union (signatureArm v) signatureBody v
@@ -262,14 +283,14 @@ unfoldable pub nvDigestCertifyInfo : Layout
 nvDigestCertifyInfo = name (digest stop)
 
 -- TPMU_ATTEST
-abbrev pub attestBody : ℕ → Layout
-attestBody t =
-    by (
-    case attestCertify certifyInfo ∷ case attestCreation creationInfo ∷ case attestQuote quoteInfo
+abbrev pub attestCases : List Case
+attestCases = case attestCertify certifyInfo ∷ case attestCreation creationInfo ∷ case attestQuote quoteInfo
     ∷ case attestCommandAudit commandAuditInfo ∷ case attestSessionAudit sessionAuditInfo ∷ case attestTime timeAttestInfo
     ∷ case attestNv nvCertifyInfo ∷ case attestNvDigest nvDigestCertifyInfo
     ∷ []
-    ) t
+
+abbrev pub attestBody : ℕ → Layout
+attestBody t = by attestCases t
 
 unfoldable pub attestBy : ℕ → Layout
 attestBy v = union (attestArm v) attestBody v

@@ -1,0 +1,366 @@
+-- The greatest record of each kind: no record is larger, and one is so large. Assumes nothing.
+use Prim.Native.Nat.{ℕ, zero, suc, _+_, _≤_}
+use native.Mathlib.Omega.{arith}
+use mathlib.Core.Path.{_≡_, refl}
+use mathlib.Core.Bool.{Bool, true, false}
+use mathlib.Core.List.{List, [], _∷_}
+use lib.Dec.{eqb, lit<}
+use Rattle.wire.specs.declared.choice.Choice.{Choice}
+use Rattle.wire.specs.declared.choice.Choice.the-variants.{Nothing, The}
+use Rattle.wire.specs.Layout.{Rule, Layout, stop, number, one, free, _then_}
+use Rattle.wire.specs.Sizes.{AtMost, Reaches, Greatest}
+use Rattle.wire.specs.Unions.{Case, pick, by, union, look}
+use Rattle.wire.proofs.Sizes.{stop-most, no-arm-most, arm-most, number-most, plain-most, buffer-most, counted-most, then-most, most-wider, stop-reaches, arm-reaches, number-reaches, plain-reaches, buffer-reaches, counted-reaches, then-reaches}
+use Rattle.kinds.specs.Codes.{algorithms, attestations, isAlgorithm, isAttestation, alg, curve, attestation, yesNo, magic}
+use Rattle.kinds.specs.Tables.{digestRows, digestArm, asymArm, sigArm, keyedhashArm, kdfArm, cipherArm, typeArm, sensitiveArm, signatureArm, attestArm}
+use Rattle.kinds.specs.Kinds.{keyedhashCases, kdfCases, keyBitsCases, modeCases, parmsCases, uniqueCases, sensitiveCases, signatureCases, attestCases, haBody, asymBody, sigBody, keyedhashBody, kdfBody, keyBitsBody, modeBody, parmsBody, uniqueBody, sensitiveBody, signatureBody, attestBody, haBy, asymBy, sigBy, keyedhashBy, kdfBy, keyBitsBy, modeBy, parmsBy, uniqueBy, sensitiveBy, signatureBy, attestBy, ha, symDef, kdfScheme, keyedhashScheme, sigScheme, asymScheme, rsaParms, eccParms, eccPoint, signatureRsa, signatureEcc, publicParms, signature, publicArea, sensitive, pcrSelection, pcrSelections, clockInfo, certifyInfo, creationInfo, quoteInfo, commandAuditInfo, sessionAuditInfo, timeAttestInfo, nvCertifyInfo, nvDigestCertifyInfo, attest, kinds}
+use Rattle.kinds.proofs.Choices.{Each, chosen-has}
+
+-- ---- unions: every arm that can be chosen is small enough
+
+-- one number
+one-most : (w : ℕ) (r : Rule) → AtMost (one w r) (w + 0)
+one-most w r = number-most w 0 r (λ n a. stop-most)
+
+union-most : {m : ℕ} (c : Choice) (body : ℕ → Layout) (v : ℕ) → ((t : ℕ) → c ≡ The t → AtMost (body t) m) → AtMost (union c body v) m
+union-most Nothing body v h = no-arm-most v _
+union-most (The t) body v h = arm-most v t (h t refl)
+
+-- each case of a union's body is small enough
+abbrev CasesMost : List Case → ℕ → Type 0
+CasesMost [] m = Unit {0}
+CasesMost (c ∷ cs) m = AtMost (c .holds) m × CasesMost cs m
+
+pick-most : {m : ℕ} (b : Bool) (k l : Layout) → AtMost k m → AtMost l m → AtMost (pick b k l) m
+pick-most true k l h g = h
+pick-most false k l h g = g
+
+by-most : (m : ℕ) (cs : List Case) → CasesMost cs m → (t : ℕ) → AtMost (by cs t) m
+by-most m [] h t = most-wider (omega arith) stop-most
+by-most m (c ∷ cs) h t = pick-most (eqb t (c .arm)) (c .holds) (by cs t) (h .0) (by-most m cs (h .1) t)
+
+-- a bound on a number's layout, from a bound on what follows every number
+follows : {k : ℕ → Layout} (w m : ℕ) (r : Rule) → ((n : ℕ) → AtMost (k n) m) → AtMost (number w r k) (w + m)
+follows w m r h = number-most w m r (λ n a. h n)
+
+-- ---- no record of the kind is larger
+
+plain-digest : (n : ℕ) → n + 0 ≤ 64 → AtMost (haBody (suc n)) 64
+plain-digest n h = most-wider h (plain-most n 0 stop-most)
+
+ha-by-most : (v : ℕ) → AtMost (haBy v) 64
+unfolding haBy digestArm
+ha-by-most v = union-most (look digestRows v) haBody v (λ t e. chosen-has (λ t. AtMost (haBody t) 64) digestRows rows v e)
+  where
+    rows : Each (λ t. AtMost (haBody t) 64) digestRows
+    rows = (
+      plain-digest 20 (omega arith),
+      (
+        plain-digest 24 (omega arith),
+        (
+          plain-digest 32 (omega arith),
+          (
+            plain-digest 32 (omega arith),
+            (
+              plain-digest 32 (omega arith),
+              (
+                plain-digest 32 (omega arith),
+                (
+                  plain-digest 48 (omega arith),
+                  (
+                    plain-digest 48 (omega arith),
+                    (plain-digest 64 (omega arith), (plain-digest 64 (omega arith), (plain-digest 64 (omega arith), (most-wider (omega arith) stop-most, tt)))),
+                  ),
+                ),
+              ),
+            ),
+          ),
+        ),
+      ),
+    )
+
+ha-most : AtMost ha 66
+unfolding ha
+ha-most = follows 2 64 alg ha-by-most
+
+-- nothing, or a code
+code-most : (t : ℕ) → AtMost (asymBody t) 2
+code-most zero = most-wider (omega arith) stop-most
+code-most (suc t) = one-most 2 alg
+
+asym-most : AtMost asymScheme 4
+unfolding asymScheme asymBy
+asym-most = follows 2 2 alg (λ v. union-most (asymArm v) asymBody v (λ t e. code-most t))
+
+sig-most : AtMost sigScheme 4
+unfolding sigScheme sigBy
+sig-most = follows 2 2 alg (λ v. union-most (sigArm v) sigBody v (λ t e. code-most t))
+
+keyedhash-most : AtMost keyedhashScheme 6
+unfolding keyedhashScheme keyedhashBy
+keyedhash-most =
+    follows 2 4 alg (λ v. union-most (keyedhashArm v) keyedhashBody v (λ t e. by-most 4 keyedhashCases (most-wider (omega arith) (one-most 2 alg), (follows 2 2 alg (λ n. one-most 2 alg), tt)) t))
+
+kdf-most : AtMost kdfScheme 4
+unfolding kdfScheme kdfBy
+kdf-most = follows 2 2 alg (λ v. union-most (kdfArm v) kdfBody v (λ t e. by-most 2 kdfCases (one-most 2 alg, (one-most 2 alg, (one-most 2 alg, (one-most 2 alg, tt)))) t))
+
+sym-def-most : AtMost symDef 6
+unfolding symDef keyBitsBy modeBy
+sym-def-most =
+    follows 2 4 alg
+    (λ v. then-most _ _ 2 2 (union-most (cipherArm v) keyBitsBody v (λ t e. by-most 2 keyBitsCases (one-most 2 free, (one-most 2 free, (one-most 2 free, (one-most 2 alg, tt)))) t))
+    (union-most (cipherArm v) modeBody v (λ t e. by-most 2 modeCases (one-most 2 alg, (one-most 2 alg, (one-most 2 alg, (one-most 2 alg, tt)))) t)))
+
+rsa-parms-most : AtMost rsaParms 16
+unfolding rsaParms
+rsa-parms-most = then-most _ _ 6 10 sym-def-most (then-most _ _ 4 6 asym-most (follows 2 4 free (λ n. one-most 4 free)))
+
+ecc-parms-most : AtMost eccParms 16
+unfolding eccParms
+ecc-parms-most = then-most _ _ 6 10 sym-def-most (then-most _ _ 4 6 asym-most (follows 2 4 curve (λ n. kdf-most)))
+
+parms-by-most : (v : ℕ) → AtMost (parmsBy v) 16
+unfolding parmsBy
+parms-by-most v =
+    union-most (typeArm v) parmsBody v (λ t e. by-most 16 parmsCases (most-wider (omega arith) keyedhash-most, (most-wider (omega arith) sym-def-most, (rsa-parms-most, (ecc-parms-most, tt)))) t)
+
+unique-by-most : (v : ℕ) → AtMost (uniqueBy v) 514
+unfolding uniqueBy eccPoint
+unique-by-most v =
+    union-most (typeArm v) uniqueBody v (λ t e. by-most 514 uniqueCases (
+      most-wider (omega arith) (buffer-most 2 64 0 stop-most),
+      (
+        most-wider (omega arith) (buffer-most 2 32 0 stop-most),
+        (buffer-most 2 512 0 stop-most, (most-wider (omega arith) (buffer-most 2 66 68 (buffer-most 2 66 0 stop-most)), tt)),
+      ),
+    ) t)
+
+sensitive-by-most : (v : ℕ) → AtMost (sensitiveBy v) 258
+unfolding sensitiveBy
+sensitive-by-most v =
+    union-most (sensitiveArm v) sensitiveBody v (λ t e. by-most 258 sensitiveCases (
+      buffer-most 2 256 0 stop-most,
+      (
+        most-wider (omega arith) (buffer-most 2 66 0 stop-most),
+        (buffer-most 2 256 0 stop-most, (most-wider (omega arith) (buffer-most 2 32 0 stop-most), tt)),
+      ),
+    ) t)
+
+signature-rsa-most : AtMost signatureRsa 516
+unfolding signatureRsa
+signature-rsa-most = follows 2 514 alg (λ n. buffer-most 2 512 0 stop-most)
+
+signature-ecc-most : AtMost signatureEcc 516
+unfolding signatureEcc
+signature-ecc-most = most-wider (omega arith) (follows 2 136 alg (λ n. buffer-most 2 66 68 (buffer-most 2 66 0 stop-most)))
+
+signature-by-most : (v : ℕ) → AtMost (signatureBy v) 516
+unfolding signatureBy
+signature-by-most v =
+    union-most (signatureArm v) signatureBody v (λ t e. by-most 516 signatureCases (
+      signature-rsa-most,
+      (
+        signature-rsa-most,
+        (signature-ecc-most, (signature-ecc-most, (signature-ecc-most, (signature-ecc-most, (most-wider (omega arith) ha-most, tt))))),
+      ),
+    ) t)
+
+public-parms-most : AtMost publicParms 18
+unfolding publicParms
+public-parms-most = follows 2 16 alg parms-by-most
+
+signature-most : AtMost signature 518
+unfolding signature
+signature-most = follows 2 516 alg signature-by-most
+
+public-area-most : AtMost publicArea 604
+unfolding publicArea
+public-area-most =
+    follows 2 602 alg (λ type. follows 2 600 alg (λ n. follows 4 596 free (λ n. buffer-most 2 64 530 (then-most _ _ 16 514 (parms-by-most type) (unique-by-most type)))))
+
+sensitive-most : AtMost sensitive 392
+unfolding sensitive
+sensitive-most = follows 2 390 alg (λ type. buffer-most 2 64 324 (buffer-most 2 64 258 (sensitive-by-most type)))
+
+pcr-most : AtMost pcrSelections 116
+unfolding pcrSelections pcrSelection
+pcr-most = counted-most 16 7 0 (follows 2 5 alg (λ n. buffer-most 1 4 0 stop-most)) stop-most
+
+clock-most : AtMost clockInfo 17
+unfolding clockInfo
+clock-most = follows 8 9 free (λ n. follows 4 5 free (λ n. follows 4 1 free (λ n. one-most 1 yesNo)))
+
+attest-by-most : (v : ℕ) → AtMost (attestBy v) 2120
+unfolding attestBy certifyInfo creationInfo quoteInfo commandAuditInfo sessionAuditInfo timeAttestInfo nvCertifyInfo nvDigestCertifyInfo
+attest-by-most v =
+    union-most (attestArm v) attestBody v (λ t e. by-most 2120 attestCases (
+      most-wider (omega arith) (buffer-most 2 66 68 (buffer-most 2 66 0 stop-most)),
+      (
+        most-wider (omega arith) (buffer-most 2 66 66 (buffer-most 2 64 0 stop-most)),
+        (
+          most-wider (omega arith) (then-most _ _ 116 66 pcr-most (buffer-most 2 64 0 stop-most)),
+          (
+            most-wider (omega arith) (follows 8 134 free (λ n. follows 2 132 alg (λ n. buffer-most 2 64 66 (buffer-most 2 64 0 stop-most)))),
+            (
+              most-wider (omega arith) (follows 1 66 yesNo (λ n. buffer-most 2 64 0 stop-most)),
+              (
+                most-wider (omega arith) (follows 8 25 free (λ n. then-most _ _ 17 8 clock-most (one-most 8 free))),
+                (
+                  buffer-most 2 66 2052 (follows 2 2050 free (λ n. buffer-most 2 2048 0 stop-most)),
+                  (most-wider (omega arith) (buffer-most 2 66 66 (buffer-most 2 64 0 stop-most)), tt),
+                ),
+              ),
+            ),
+          ),
+        ),
+      ),
+    ) t)
+
+attest-most : AtMost attest 2287
+unfolding attest
+attest-most =
+    follows 4 2283 magic (λ n. follows 2 2281 attestation (λ type. buffer-most 2 66 2213 (buffer-most 2 66 2145 (then-most _ _ 17 2128 clock-most (follows 8 2120 free (λ n. attest-by-most type))))))
+
+-- ---- and one is so large
+
+ha-reaches : Reaches ha 66
+unfolding ha isAlgorithm algorithms haBy digestArm
+ha-reaches = number-reaches 2 alg 0x0D (omega arith) refl (arm-reaches 0x0D 65 (plain-reaches 64 stop-reaches))
+
+code-reaches : Reaches (one 2 alg) 2
+unfolding isAlgorithm algorithms
+code-reaches = number-reaches 2 alg 0x0B (omega arith) refl stop-reaches
+
+asym-reaches : Reaches asymScheme 4
+unfolding asymScheme isAlgorithm algorithms asymBy asymArm
+asym-reaches = number-reaches 2 alg 0x14 (omega arith) refl (arm-reaches 0x14 1 code-reaches)
+
+sig-reaches : Reaches sigScheme 4
+unfolding sigScheme isAlgorithm algorithms sigBy sigArm
+sig-reaches = number-reaches 2 alg 0x14 (omega arith) refl (arm-reaches 0x14 1 code-reaches)
+
+keyedhash-reaches : Reaches keyedhashScheme 6
+unfolding keyedhashScheme isAlgorithm algorithms keyedhashBy keyedhashArm
+keyedhash-reaches = number-reaches 2 alg 0x0A (omega arith) refl (arm-reaches 0x0A 0x0A (number-reaches 2 alg 0x0B (omega arith) refl code-reaches))
+
+kdf-reaches : Reaches kdfScheme 4
+unfolding kdfScheme isAlgorithm algorithms kdfBy kdfArm
+kdf-reaches = number-reaches 2 alg 0x07 (omega arith) refl (arm-reaches 0x07 0x07 code-reaches)
+
+sym-def-reaches : Reaches symDef 6
+unfolding symDef isAlgorithm algorithms keyBitsBy modeBy cipherArm
+sym-def-reaches =
+    number-reaches 2 alg 0x06 (omega arith) refl (then-reaches (arm-reaches 0x06 0x06 (number-reaches 2 free 128 (omega arith) refl stop-reaches)) (arm-reaches 0x06 0x06 code-reaches))
+
+rsa-parms-reaches : Reaches rsaParms 16
+unfolding rsaParms
+rsa-parms-reaches = then-reaches sym-def-reaches (then-reaches asym-reaches (number-reaches 2 free 2048 (omega arith) refl (number-reaches 4 free 0 (omega arith) refl stop-reaches)))
+
+parms-reaches : Reaches (parmsBy 0x01) 16
+unfolding parmsBy typeArm
+parms-reaches = arm-reaches 0x01 0x01 rsa-parms-reaches
+
+unique-reaches : Reaches (uniqueBy 0x01) 514
+unfolding uniqueBy typeArm
+unique-reaches = arm-reaches 0x01 0x01 (buffer-reaches 2 512 (omega arith) stop-reaches)
+
+public-parms-reaches : Reaches publicParms 18
+unfolding publicParms isAlgorithm algorithms
+public-parms-reaches = number-reaches 2 alg 0x01 (omega arith) refl parms-reaches
+
+signature-reaches : Reaches signature 518
+unfolding signature isAlgorithm algorithms signatureBy signatureArm signatureRsa
+signature-reaches = number-reaches 2 alg 0x14 (omega arith) refl (arm-reaches 0x14 0x14 (number-reaches 2 alg 0x0B (omega arith) refl (buffer-reaches 2 512 (omega arith) stop-reaches)))
+
+public-area-reaches : Reaches publicArea 604
+unfolding publicArea isAlgorithm algorithms
+public-area-reaches =
+    number-reaches 2 alg 0x01 (omega arith) refl
+    (number-reaches 2 alg 0x0B (omega arith) refl
+    (number-reaches 4 free 0 (omega arith) refl
+    (buffer-reaches 2 64 (omega arith) (then-reaches parms-reaches unique-reaches))))
+
+sensitive-reaches : Reaches sensitive 392
+unfolding sensitive isAlgorithm algorithms sensitiveBy sensitiveArm
+sensitive-reaches =
+    number-reaches 2 alg 0x01 (omega arith) refl
+    (buffer-reaches 2 64 (omega arith) (buffer-reaches 2 64 (omega arith) (arm-reaches 0x01 0x01 (buffer-reaches 2 256 (omega arith) stop-reaches))))
+
+pcr-reaches : Reaches pcrSelections 116
+unfolding pcrSelections pcrSelection isAlgorithm algorithms
+pcr-reaches = counted-reaches 16 (omega arith) (number-reaches 2 alg 0x0B (omega arith) refl (buffer-reaches 1 4 (omega arith) stop-reaches)) stop-reaches
+
+clock-reaches : Reaches clockInfo 17
+unfolding clockInfo
+clock-reaches =
+    number-reaches 8 free 0 (omega arith) refl
+    (number-reaches 4 free 0 (omega arith) refl
+    (number-reaches 4 free 0 (omega arith) refl
+    (number-reaches 1 yesNo 1 (omega arith) refl stop-reaches)))
+
+nv-reaches : Reaches (attestBy 0x8014) 2120
+unfolding attestBy attestArm nvCertifyInfo
+nv-reaches = arm-reaches 0x8014 0x8014 (buffer-reaches 2 66 (omega arith) (number-reaches 2 free 0 (omega arith) refl (buffer-reaches 2 2048 (omega arith) stop-reaches)))
+
+attest-reaches : Reaches attest 2287
+unfolding attest isAttestation attestations
+attest-reaches =
+    number-reaches 4 magic 0xFF544347 (omega arith) refl
+    (number-reaches 2 attestation 0x8014 (omega arith) refl
+    (buffer-reaches 2 66 (omega arith)
+    (buffer-reaches 2 66 (omega arith) (then-reaches clock-reaches (number-reaches 8 free 0 (omega arith) refl nv-reaches)))))
+
+-- ---- all fourteen
+
+-- the greatest sizes, kinds 1 to 14
+unfoldable pub greatest : List ℕ
+greatest = 66 ∷ 6 ∷ 4 ∷ 6 ∷ 4 ∷ 4 ∷ 4 ∷ 4 ∷ 18 ∷ 518 ∷ 604 ∷ 392 ∷ 2287 ∷ 116 ∷ []
+
+abbrev pub AllGreatest : List Layout → List ℕ → Type 0
+AllGreatest [] [] = Unit {0}
+AllGreatest [] (m ∷ ms) = ⊥
+AllGreatest (l ∷ ls) [] = ⊥
+AllGreatest (l ∷ ls) (m ∷ ms) = Greatest l m × AllGreatest ls ms
+
+both : {l : Layout} {m : ℕ} → AtMost l m → Reaches l m → Greatest l m
+both h g = record { most = h; reached = g }
+
+-- no record of a kind is larger than this, and one is so large
+pub greatest-sizes : AllGreatest kinds greatest
+unfolding kinds greatest
+greatest-sizes =
+    let scheme = both asym-most asym-reaches in (
+      both ha-most ha-reaches,
+      (
+        both sym-def-most sym-def-reaches,
+        (
+          both kdf-most kdf-reaches,
+          (
+            both keyedhash-most keyedhash-reaches,
+            (
+              both sig-most sig-reaches,
+              (
+                scheme,
+                (
+                  scheme,
+                  (
+                    scheme,
+                    (
+                      both public-parms-most public-parms-reaches,
+                      (
+                        both signature-most signature-reaches,
+                        (
+                          both public-area-most public-area-reaches,
+                          (both sensitive-most sensitive-reaches, (both attest-most attest-reaches, (both pcr-most pcr-reaches, tt))),
+                        ),
+                      ),
+                    ),
+                  ),
+                ),
+              ),
+            ),
+          ),
+        ),
+      ),
+    )
