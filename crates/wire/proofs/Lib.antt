@@ -11,3 +11,5 @@ pub mod Written
 pub mod Then
 pub mod Later
 pub mod Order
+pub mod Tests
+pub mod Cuts
