@@ -11,5 +11,8 @@ pub mod Written
 pub mod Then
 pub mod Later
 pub mod Order
+pub mod Leaves
 pub mod Tests
 pub mod Cuts
+pub mod Widths
+pub mod Numbers
