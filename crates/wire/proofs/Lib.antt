@@ -16,3 +16,4 @@ pub mod Tests
 pub mod Cuts
 pub mod Widths
 pub mod Numbers
+pub mod Filling
