@@ -11,11 +11,26 @@ use lib.Dec.{leb}
 use borrow.Author.Tests.{le-leb, lt-leb, leb-true}
 use Rattle.wire.specs.declared.fault.Refusal.{Refusal}
 use Rattle.wire.specs.Bytes.{be}
-use Rattle.wire.specs.Faults.{short, tooLong, tooManyItems}
+use Rattle.wire.specs.Faults.{short, noSuchArm, tooLong, tooManyItems}
 use Rattle.wire.specs.Layout.{Rule, free, lengthTo, countTo, allows, breach, Layout, stop, noArm, arm, number, plain, buffer, counted, one, _then_}
-use Rattle.wire.specs.Reading.{Part, num, span, Ans, found, refused, Parsed, parsed, next, when, also, Reader, left, piece, field, walk, list, read}
+use Rattle.wire.specs.Reading.{Part, num, tag, span, Ans, found, refused, Parsed, parsed, next, when, also, Reader, left, piece, field, walk, list, read}
 use Rattle.wire.proofs.Steps.{found-refused, found-same, parsed-same, next-found, when-found}
 use Rattle.wire.proofs.Then.{then-found, then-refused}
+
+-- ---- what takes no bytes: the end, an arm, and an arm that is not there
+
+module _ (src : List ℕ) (at : ℕ) where
+  pub read-stop : read stop src at ≡ parsed [] at
+  unfolding read
+  read-stop = refl
+
+  pub read-arm : (v t : ℕ) (l : Layout) → read (arm v t l) src at ≡ also (tag t) (read l src at)
+  unfolding read
+  read-arm v t l = refl
+
+  pub read-no-arm : (v : ℕ) → read (noArm v) src at ≡ refused (noSuchArm at v)
+  unfolding read
+  read-no-arm v = refl
 
 -- ---- bytes that are there, and bytes that are not
 
