@@ -17,3 +17,10 @@ pub mod Split
 pub mod Sizes
 pub mod Later
 pub mod Order
+pub mod Leaves
+pub mod Tests
+pub mod Cuts
+pub mod Widths
+pub mod Numbers
+pub mod Filling
+pub mod Answers

@@ -92,6 +92,14 @@ read-then (counted b i l) m src at =
     next-both (list b (λ s a. read i s a) src at) _ _ (λ e. read m src e)
     (λ e. also-both (span at (e - at)) (read l src e) (read (l then m) src e) (λ e. read m src e) (read-then l m src e))
 
+-- so what a reader of l answered decides how `l then m` is read
+module _ (l m : Layout) (src : List ℕ) (at : ℕ) where
+  pub then-found : {ps : List Part} {e : ℕ} → parsed ps e ≡ read l src at → read (l then m) src at ≡ behind ps (read m src e)
+  then-found p = rw (read-then l m src at, ← p)
+
+  pub then-refused : {f : Refusal} → refused f ≡ read l src at → read (l then m) src at ≡ refused f
+  then-refused p = rw (read-then l m src at, ← p)
+
 -- and is spelled as l, with m behind it
 pub spells-then : {l m : Layout} {ts us : List Token} {bs cs : List ℕ} → Spells l ts bs → Spells m us cs → Spells (l then m) (ts ++ us) (bs ++ cs)
 unfolding _then_

@@ -2,6 +2,8 @@
 use crate::fault::Refusal;
 use crate::measure::Measure;
 ghost use mathlib.Core.Path.{_≡_};
+ghost use Prim.Native.Nat.{_+_};
+ghost use lib.Dec.{leb};
 ghost use Rattle.wire.specs.Answers.{startOf, lenOf, spanPart, measureAnswer};
 ghost use Rattle.wire.specs.Reading.{span};
 ghost use Rattle.wire.specs.Writing.{cut, partOf, sizeOf};
@@ -31,5 +33,37 @@ impl Span {
         ensures { λ r. ⌜ r ≡ lenOf self ⌝ }
     {
         self.len
+    }
+    // It lies inside a slice of n bytes.
+    fn inside(self, n: usize) -> bool
+        ensures { λ r. ⌜ r ≡ leb (startOf self + lenOf self) n ⌝ }
+    {
+        if self.start <= n {
+            self.len <= n - self.start
+        } else {
+            false
+        }
+    }
+
+    // How long its part of s is, or that s has no such part; `place` is the one that a refusal names.
+    pub fn measure(self, s: &[u8], place: usize) -> Measure
+        ensures { λ r. ⌜ measureAnswer r ≡ sizeOf (cut (now (s .entry)) (startOf self) (lenOf self) place) ⌝ }
+    {
+        if self.inside(s.len()) {
+            return Measure::Size(self.len);
+        }
+        Measure::No(Refusal::bad_span(place, self.len))
+    }
+
+    // Its part of s, an empty one where s has none.
+    pub fn part<'a>(self, s: &'a [u8]) -> &'a [u8]
+        ensures { λ r. ⌜ now r ≡ partOf (cut (now (s .entry)) (startOf self) (lenOf self) 0) ⌝ }
+    {
+        if self.inside(s.len()) {
+            let start = self.start;
+            let end = start + self.len;
+            return &s[start..end];
+        }
+        &s[0..0]
     }
 }

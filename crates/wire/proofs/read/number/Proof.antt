@@ -1,0 +1,31 @@
+-- Bytes that are left there spell the number, and too few are Short. Assumes nothing.
+use borrow.Author.Needs.{needs}
+use native.Mathlib.Omega.{arith}
+use Rattle.wire.proofs.Leaves.{one-there, one-short}
+use Rattle.wire.proofs.Widths.{width-range}
+use Rattle.wire.proofs.read.number.Statement.{statement}
+use Rattle.wire.proofs.read.number.Tie as tie
+
+bytes-requires : tie.Need-bytes-requires
+bytes-requires c κs = search needs
+
+left-requires : tie.Need-left-requires
+left-requires c κs = search needs
+
+add-end : tie.Need-add-end
+add-end c = search needs
+
+big-endian-requires : tie.Need-big-endian-requires
+big-endian-requires c κs = omega (arith, width-range (c .before .before .before .before .args .w))
+
+returns : tie.Need-returns
+returns c = rw (← c .before .before .before .bytes .ensures) (one-there _ _ _ (rw (c .before .before .left .ensures) at (c .before .if1 .taken)) (c .big-endian .ensures))
+
+short-requires : tie.Need-short-requires
+short-requires c κs = search needs
+
+returns-2 : tie.Need-returns-2
+returns-2 c = rw (c .short .ensures, ← c .before .before .before .bytes .ensures) (one-short _ _ _ (rw (c .before .before .left .ensures) at (c .before .if1 .left)))
+
+pub number-spec : {M : Type 1} → statement M
+number-spec = tie.close (tie.spec bytes-requires left-requires add-end big-endian-requires returns short-requires returns-2)

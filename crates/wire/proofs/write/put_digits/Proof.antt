@@ -1,0 +1,42 @@
+-- A turn puts the last digit of those that are left. Assumes nothing.
+use borrow.Author.Needs.{needs}
+use native.Mathlib.Omega.{arith}
+use Rattle.wire.proofs.Filling.{Filling, filling-none, filling-more, filling-all}
+use Rattle.wire.proofs.write.put_digits.Statement.{statement}
+use Rattle.wire.proofs.write.put_digits.Tie as tie
+
+abbrev Inv-loop : tie.InvT-loop
+Inv-loop n w out₀ at m₀ j₀ out m j = Filling out₀ at w n out m j
+
+abbrev μ-loop : tie.MeasureT-loop
+μ-loop n w out₀ at m₀ j₀ out m j = j
+
+loop-holds : tie.Need-loop-holds Inv-loop μ-loop
+loop-holds c = filling-none _ _ _ _
+
+sub-j : tie.Need-sub-j Inv-loop μ-loop
+sub-j c = search needs
+
+low-requires : tie.Need-low-requires Inv-loop μ-loop
+low-requires c κs = search needs
+
+add-out : tie.Need-add-out Inv-loop μ-loop
+add-out c = search needs
+
+slice-write-out : tie.Need-slice-write-out Inv-loop μ-loop
+slice-write-out c = search needs
+
+loop-less : tie.Need-loop-less Inv-loop μ-loop
+loop-less c = search needs
+
+loop-again : tie.Need-loop-again Inv-loop μ-loop
+loop-again c = let l = c .before .before .loop in rw (c .low .ensures) (filling-more _ _ _ _ _ _ _ (c .before .before .before .before .pre) (c .before .loop-test .taken) (l .inv))
+
+same-length : tie.Need-same-length Inv-loop μ-loop
+same-length c = c .before .loop .inv .same
+
+returns : tie.Need-returns Inv-loop μ-loop
+returns c = filling-all (c .before .loop .j) (c .loop-test .left) (c .before .loop .inv)
+
+pub put-digits-spec : {M : Type 1} → statement M
+put-digits-spec = tie.close (tie.spec Inv-loop μ-loop loop-holds sub-j low-requires add-out slice-write-out loop-less loop-again same-length returns)

@@ -1,0 +1,43 @@
+-- The digits fit if their number is no more than the bytes that are left there. Assumes nothing.
+use borrow.Author.Needs.{needs}
+use native.Mathlib.Omega.{arith}
+use mathlib.Core.Path.{sym}
+use Rattle.wire.specs.Bytes.{digits}
+use Rattle.wire.proofs.Digits.{length-digits}
+use Rattle.wire.proofs.Widths.{width-range}
+use Rattle.wire.proofs.Filling.{fits-put, fits-not}
+use Rattle.wire.proofs.write.put_number.Statement.{statement}
+use Rattle.wire.proofs.write.put_number.Tie as tie
+
+bytes-requires : tie.Need-bytes-requires
+bytes-requires c κs = search needs
+
+left-requires : tie.Need-left-requires
+left-requires c κs = search needs
+
+put-digits-requires : tie.Need-put-digits-requires
+put-digits-requires c κs = omega (arith, width-range (c .before .before .before .before .before .args .w))
+
+same-length : tie.Need-same-length
+same-length c = search needs
+
+returns : tie.Need-returns
+returns c =
+    let p = c .before .before .before .before in
+    let b = p .before .before in
+    let a = b .before .before .args in
+    rw (← b .bytes .ensures)
+    (fits-put (a .at) (digits (b .bytes .result) (a .n)) (a .out .now) (sym (length-digits (b .bytes .result) (a .n))) (rw (p .before .left .ensures) at (p .if1 .taken)) (c .before .before .put-digits .ensures))
+
+no-room-requires : tie.Need-no-room-requires
+no-room-requires c κs = search needs
+
+returns-2 : tie.Need-returns-2
+returns-2 c =
+    let p = c .before in
+    let b = p .before .before in
+    let a = b .before .before .args in
+    rw (c .no-room .ensures, ← b .bytes .ensures) (fits-not (a .at) (digits (b .bytes .result) (a .n)) (a .out .now) (sym (length-digits (b .bytes .result) (a .n))) (rw (p .before .left .ensures) at (p .if1 .left)))
+
+pub put-number-spec : {M : Type 1} → statement M
+put-number-spec = tie.close (tie.spec bytes-requires left-requires put-digits-requires same-length returns no-room-requires returns-2)
