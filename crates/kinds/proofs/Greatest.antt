@@ -4,16 +4,16 @@ use native.Mathlib.Omega.{arith}
 use mathlib.Core.Path.{_≡_, refl}
 use mathlib.Core.Bool.{Bool, true, false}
 use mathlib.Core.List.{List, [], _∷_}
-use lib.Dec.{eqb, lit<}
+use lib.Dec.{eqb}
 use Rattle.wire.specs.declared.choice.Choice.{Choice}
 use Rattle.wire.specs.declared.choice.Choice.the-variants.{Nothing, The}
-use Rattle.wire.specs.Layout.{Rule, Layout, stop, number, one, free, _then_}
+use Rattle.wire.specs.Layout.{Rule, Layout, number, one, free}
 use Rattle.wire.specs.Sizes.{AtMost, Reaches, Greatest}
 use Rattle.wire.specs.Unions.{Case, pick, by, union, look}
 use Rattle.wire.proofs.Sizes.{stop-most, no-arm-most, arm-most, number-most, plain-most, buffer-most, counted-most, then-most, most-wider, stop-reaches, arm-reaches, number-reaches, plain-reaches, buffer-reaches, counted-reaches, then-reaches}
 use Rattle.kinds.specs.Codes.{algorithms, attestations, isAlgorithm, isAttestation, alg, curve, attestation, yesNo, magic}
 use Rattle.kinds.specs.Tables.{digestRows, digestArm, asymArm, sigArm, keyedhashArm, kdfArm, cipherArm, typeArm, sensitiveArm, signatureArm, attestArm}
-use Rattle.kinds.specs.Kinds.{keyedhashCases, kdfCases, keyBitsCases, modeCases, parmsCases, uniqueCases, sensitiveCases, signatureCases, attestCases, haBody, asymBody, sigBody, keyedhashBody, kdfBody, keyBitsBody, modeBody, parmsBody, uniqueBody, sensitiveBody, signatureBody, attestBody, haBy, asymBy, sigBy, keyedhashBy, kdfBy, keyBitsBy, modeBy, parmsBy, uniqueBy, sensitiveBy, signatureBy, attestBy, ha, symDef, kdfScheme, keyedhashScheme, sigScheme, asymScheme, rsaParms, eccParms, eccPoint, signatureRsa, signatureEcc, publicParms, signature, publicArea, sensitive, pcrSelection, pcrSelections, clockInfo, certifyInfo, creationInfo, quoteInfo, commandAuditInfo, sessionAuditInfo, timeAttestInfo, nvCertifyInfo, nvDigestCertifyInfo, attest, kinds}
+use Rattle.kinds.specs.Kinds.{schemeHash, schemeXor, keyedhashCases, kdfCases, keyBitsCases, modeCases, parmsCases, uniqueCases, sensitiveCases, signatureCases, attestCases, haBody, asymBody, sigBody, keyedhashBody, kdfBody, keyBitsBody, modeBody, parmsBody, uniqueBody, sensitiveBody, signatureBody, attestBody, haBy, asymBy, sigBy, keyedhashBy, kdfBy, keyBitsBy, modeBy, parmsBy, uniqueBy, sensitiveBy, signatureBy, attestBy, ha, symDef, kdfScheme, keyedhashScheme, sigScheme, asymScheme, rsaParms, eccParms, eccPoint, signatureRsa, signatureEcc, publicParms, signature, publicArea, sensitive, pcrSelection, pcrSelections, clockInfo, certifyInfo, creationInfo, quoteInfo, commandAuditInfo, sessionAuditInfo, timeAttestInfo, nvCertifyInfo, nvDigestCertifyInfo, attest, kinds}
 use Rattle.kinds.proofs.Choices.{Each, chosen-has}
 
 -- ---- unions: every arm that can be chosen is small enough
@@ -85,6 +85,7 @@ ha-most = follows 2 64 alg ha-by-most
 
 -- nothing, or a code
 code-most : (t : ℕ) → AtMost (asymBody t) 2
+unfolding schemeHash
 code-most zero = most-wider (omega arith) stop-most
 code-most (suc t) = one-most 2 alg
 
@@ -97,12 +98,12 @@ unfolding sigScheme sigBy
 sig-most = follows 2 2 alg (λ v. union-most (sigArm v) sigBody v (λ t e. code-most t))
 
 keyedhash-most : AtMost keyedhashScheme 6
-unfolding keyedhashScheme keyedhashBy
+unfolding keyedhashScheme keyedhashBy schemeHash schemeXor
 keyedhash-most =
     follows 2 4 alg (λ v. union-most (keyedhashArm v) keyedhashBody v (λ t e. by-most 4 keyedhashCases (most-wider (omega arith) (one-most 2 alg), (follows 2 2 alg (λ n. one-most 2 alg), tt)) t))
 
 kdf-most : AtMost kdfScheme 4
-unfolding kdfScheme kdfBy
+unfolding kdfScheme kdfBy schemeHash
 kdf-most = follows 2 2 alg (λ v. union-most (kdfArm v) kdfBody v (λ t e. by-most 2 kdfCases (one-most 2 alg, (one-most 2 alg, (one-most 2 alg, (one-most 2 alg, tt)))) t))
 
 sym-def-most : AtMost symDef 6
@@ -233,19 +234,19 @@ unfolding isAlgorithm algorithms
 code-reaches = number-reaches 2 alg 0x0B (omega arith) refl stop-reaches
 
 asym-reaches : Reaches asymScheme 4
-unfolding asymScheme isAlgorithm algorithms asymBy asymArm
+unfolding asymScheme isAlgorithm algorithms asymBy asymArm schemeHash
 asym-reaches = number-reaches 2 alg 0x14 (omega arith) refl (arm-reaches 0x14 1 code-reaches)
 
 sig-reaches : Reaches sigScheme 4
-unfolding sigScheme isAlgorithm algorithms sigBy sigArm
+unfolding sigScheme isAlgorithm algorithms sigBy sigArm schemeHash
 sig-reaches = number-reaches 2 alg 0x14 (omega arith) refl (arm-reaches 0x14 1 code-reaches)
 
 keyedhash-reaches : Reaches keyedhashScheme 6
-unfolding keyedhashScheme isAlgorithm algorithms keyedhashBy keyedhashArm
+unfolding keyedhashScheme isAlgorithm algorithms keyedhashBy keyedhashArm schemeXor
 keyedhash-reaches = number-reaches 2 alg 0x0A (omega arith) refl (arm-reaches 0x0A 0x0A (number-reaches 2 alg 0x0B (omega arith) refl code-reaches))
 
 kdf-reaches : Reaches kdfScheme 4
-unfolding kdfScheme isAlgorithm algorithms kdfBy kdfArm
+unfolding kdfScheme isAlgorithm algorithms kdfBy kdfArm schemeHash
 kdf-reaches = number-reaches 2 alg 0x07 (omega arith) refl (arm-reaches 0x07 0x07 code-reaches)
 
 sym-def-reaches : Reaches symDef 6

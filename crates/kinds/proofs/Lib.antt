@@ -1,3 +1,6 @@
 pub mod Choices
+pub mod Own
+pub mod Values
+pub mod Ranges
 pub mod Greatest
 pub mod Samples

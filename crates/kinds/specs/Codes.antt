@@ -1,35 +1,57 @@
 -- The codes that are listed, and the registry's names of those that are used. Assumes nothing.
 use Prim.Native.Nat.{ℕ, zero, suc, _+_, _-_}
-use mathlib.Core.Bool.{Bool, false, _||_}
+use mathlib.Core.Bool.{Bool, false, _||_, _&&_}
 use mathlib.Core.List.{List, [], _∷_, _++_}
-use lib.Dec.{eqb}
+use lib.Dec.{eqb, leb}
 use Rattle.wire.specs.Layout.{Rule, listed, fixed}
+
+-- the numbers from lo to hi
+pub record Range : Type 0 where
+  pub lo : ℕ
+  pub hi : ℕ
+
+abbrev pub range : (lo hi : ℕ) → Range
+range l h = record { lo = l; hi = h }
 
 -- n numbers one after the other, from lo on
 abbrev pub row : (n lo : ℕ) → List ℕ
 row zero lo = []
 row (suc n) lo = lo ∷ row n (lo + 1)
 
--- the numbers from lo to hi
-abbrev pub from : (lo hi : ℕ) → List ℕ
-from lo hi = row (hi + 1 - lo) lo
+-- the numbers of some ranges
+abbrev pub numbers : List Range → List ℕ
+numbers [] = []
+numbers (r ∷ rs) = row (r .hi + 1 - r .lo) (r .lo) ++ numbers rs
 
 abbrev pub member : List ℕ → ℕ → Bool
 member [] n = false
 member (x ∷ xs) n = eqb n x || member xs n
 
+-- n is one of the numbers from lo to hi
+abbrev pub within : (lo hi n : ℕ) → Bool
+within l h n = leb l n && leb n h
+
 -- the 44 algorithms
+abbrev pub algorithmRanges : List Range
+algorithmRanges =
+    range 0x01 0x01 ∷ range 0x03 0x08 ∷ range 0x0A 0x0D ∷ range 0x10 0x10 ∷ range 0x12 0x1D ∷ range 0x20 0x23 ∷ range 0x25 0x2E ∷ range 0x3F 0x44 ∷ []
+
 unfoldable pub algorithms : List ℕ
-algorithms =
-    from 0x01 0x01 ++ (from 0x03 0x08 ++ (from 0x0A 0x0D ++ (from 0x10 0x10 ++ (from 0x12 0x1D ++ (from 0x20 0x23 ++ (from 0x25 0x2E ++ from 0x3F 0x44))))))
+algorithms = numbers algorithmRanges
 
 -- the 14 curves
+abbrev pub curveRanges : List Range
+curveRanges = range 0x00 0x05 ∷ range 0x10 0x11 ∷ range 0x20 0x20 ∷ range 0x30 0x32 ∷ range 0x40 0x41 ∷ []
+
 unfoldable pub curves : List ℕ
-curves = from 0x00 0x05 ++ (from 0x10 0x11 ++ (from 0x20 0x20 ++ (from 0x30 0x32 ++ from 0x40 0x41)))
+curves = numbers curveRanges
 
 -- the 8 attestation types
+abbrev pub attestationRanges : List Range
+attestationRanges = range 0x8014 0x801A ∷ range 0x801C 0x801C ∷ []
+
 unfoldable pub attestations : List ℕ
-attestations = from 0x8014 0x801A ++ from 0x801C 0x801C
+attestations = numbers attestationRanges
 
 -- what a field of each takes
 unfoldable pub isAlgorithm : ℕ → Bool

@@ -42,9 +42,13 @@ nvContents l = buffer 2 2048 l
 
 -- ---- the arms of each union
 
--- a hash code
-abbrev pub schemeHash : Layout
+-- TPMS_SCHEME_HASH: a hash code
+unfoldable pub schemeHash : Layout
 schemeHash = one 2 alg
+
+-- TPMS_SCHEME_XOR: a hash code and a KDF code
+unfoldable pub schemeXor : Layout
+schemeXor = number 2 alg (λ hashAlg. one 2 alg)
 
 -- TPMU_HA: nothing, or a plain digest
 abbrev pub haBody : ℕ → Layout
@@ -70,9 +74,9 @@ sigBody (suc t) = schemeHash
 unfoldable pub sigBy : ℕ → Layout
 sigBy v = union (sigArm v) sigBody v
 
--- TPMU_SCHEME_KEYEDHASH: XOR has a hash code and a KDF code
+-- TPMU_SCHEME_KEYEDHASH
 abbrev pub keyedhashCases : List Case
-keyedhashCases = case hmac schemeHash ∷ case xor (number 2 alg (λ hashAlg. one 2 alg)) ∷ []
+keyedhashCases = case hmac schemeHash ∷ case xor schemeXor ∷ []
 
 abbrev pub keyedhashBody : ℕ → Layout
 keyedhashBody t = by keyedhashCases t

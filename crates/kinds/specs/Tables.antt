@@ -74,7 +74,7 @@ signatureRows = own rsassa ∷ own rsapss ∷ own ecdsa ∷ own ecdaa ∷ own sm
 -- ---- attestations
 
 abbrev pub attestRows : List Row
-attestRows = own attestCertify ∷ own attestCreation ∷ own attestQuote ∷ own attestCommandAudit ∷ own attestSessionAudit ∷ own attestTime ∷ own attestNv ∷ own attestNvDigest ∷ []
+attestRows = own attestNv ∷ own attestCommandAudit ∷ own attestSessionAudit ∷ own attestCertify ∷ own attestQuote ∷ own attestTime ∷ own attestCreation ∷ own attestNvDigest ∷ []
 
 -- ---- the arm that a selector chooses
 

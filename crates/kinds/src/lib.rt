@@ -1,1 +1,4 @@
-// The codes.
+// The codes of the fourteen kinds, and numbers as their fields hold them. The kinds themselves are layouts: specs/Kinds.antt.
+pub mod codes;
+pub mod registry;
+pub mod uint;

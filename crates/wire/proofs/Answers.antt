@@ -1,14 +1,10 @@
 -- No two answers of the code mean the same, so an equation on what an answer means determines it. Assumes nothing.
-use Prim.Native.Nat.{ℕ}
-use native.Mathlib.Omega.{arith}
-use mathlib.Core.Path.{_≡_, refl, sym, ap, _∙_}
-use mathlib.Core.List.{List, [], _∷_}
+use mathlib.Core.Path.{_≡_, sym, ap}
 use Rattle.wire.specs.declared.span.Span.{Span}
 use Rattle.wire.specs.declared.read.NumberRead.{NumberRead}
 use Rattle.wire.specs.declared.read.SpanRead.{SpanRead}
 use Rattle.wire.specs.declared.measure.Measure.{Measure}
 use Rattle.wire.specs.Answers.{spanPart, numberAnswer, spanAnswer, measureAnswer}
-use Rattle.wire.specs.Reading.{Part, num, span}
 use Rattle.wire.proofs.Steps.{found-refused, found-same, refused-same, parsed-same}
 
 pub span-once : (s t : Span) → spanPart s ≡ spanPart t → s ≡ t

@@ -12,8 +12,10 @@ use lib.Dec.{leb}
 use borrow.Author.Tests.{le-leb, lt-leb}
 use Rattle.wire.specs.Bytes.{digits}
 use Rattle.wire.specs.Faults.{noRoom}
-use Rattle.wire.specs.Reading.{Ans, found, refused}
+use Rattle.wire.specs.Reading.{found, refused}
 use Rattle.wire.specs.Writing.{written, filled}
+
+-- ---- a number
 
 -- of the w digits of n those from the j-th on are put; the j digits of m are left
 pub record Filling (old : List ℕ) (at w n : ℕ) (out : List ℕ) (m j : ℕ) : Type 0 where
@@ -26,15 +28,15 @@ pub record Filling (old : List ℕ) (at w n : ℕ) (out : List ℕ) (m j : ℕ) 
 pub filling-none : (old : List ℕ) (at w n : ℕ) → Filling old at w n old n w
 filling-none old at w n = record { most = omega arith; same = refl; tail = []; whole = sym (append-nil (digits w n)); held = sym (take-append-drop (at + w) old) }
 
-more : (old : List ℕ) (at w n : ℕ) (out : List ℕ) (m k : ℕ) → at + w ≤ length old → Filling old at w n out m (suc k) → Filling old at w n (set out (at + k) (m % 256)) (m / 256) k
+more : (old : List ℕ) (at w n : ℕ) (out : List ℕ) (m k : ℕ) → at + w ≤ length old → Filling old at w n out m (suc k)
+    → Filling old at w n (set out (at + k) (m % 256)) (m / 256) k
 unfolding digits
 more old at w n out m k h f =
     let x = m % 256 in
     let rest = f .tail ++ drop (at + w) old in
     let fits : at + k < length old = omega (arith, f .most) in
     let front : take (at + suc k) old ++ rest ≡ take (at + k) old ++ (getD old (at + k) 0 ∷ rest) =
-    rw (add-suc at k, take-suc old (at + k) 0 fits) (append-assoc (take (at + k) old) (getD old (at + k) 0 ∷ []) rest)
-    in
+    rw (add-suc at k, take-suc old (at + k) 0 fits) (append-assoc (take (at + k) old) (getD old (at + k) 0 ∷ []) rest) in
     record {
       most = omega (arith, f .most);
       same = length-set out (at + k) x ∙ f .same;
@@ -50,7 +52,8 @@ filling-more old at w n out m (suc k) h p f =
     let e : suc k - 1 ≡ k = omega arith in
     rw e (more old at w n out m k h f)
 
-pub filling-all : {old : List ℕ} {at w n : ℕ} {out : List ℕ} {m : ℕ} (j : ℕ) → j ≤ 0 → Filling old at w n out m j → out ≡ take at old ++ (digits w n ++ drop (at + w) old)
+pub filling-all : {old : List ℕ} {at w n : ℕ} {out : List ℕ} {m : ℕ} (j : ℕ) → j ≤ 0 → Filling old at w n out m j
+    → out ≡ take at old ++ (digits w n ++ drop (at + w) old)
 unfolding digits
 filling-all {old} {at} {w} zero h f = rw (f .whole) (rw add-zero at (f .held))
 filling-all (suc j) h f = absurd (omega arith)
@@ -75,7 +78,8 @@ copied-more {old} {at} {xs} {out} {i} h room f =
       held = rw (add-one, f .held) (paste-suc old at xs i 0 (omega arith) h);
     }
 
-pub copied-all : {old : List ℕ} {at : ℕ} {xs out : List ℕ} {i : ℕ} → length xs ≤ i → Copied old at xs out i → out ≡ take at old ++ (xs ++ drop (at + length xs) old)
+pub copied-all : {old : List ℕ} {at : ℕ} {xs out : List ℕ} {i : ℕ} → length xs ≤ i → Copied old at xs out i
+    → out ≡ take at old ++ (xs ++ drop (at + length xs) old)
 copied-all {old} {at} {xs} {out} {i} h f =
     let all : i ≡ length xs = omega (arith, f .most) in
     f .held ∙ rw (all, take-length xs) (append-assoc (take at old) xs (drop (at + length xs) old))

@@ -3,7 +3,7 @@
 -- Assumes nothing.
 use Prim.Native.Nat.{ℕ, _+_, _-_, _≤_, _<_}
 use native.Mathlib.Omega.{arith}
-use mathlib.Core.Path.{_≡_, refl, sym, ap, _∙_}
+use mathlib.Core.Path.{_≡_, refl, sym}
 use mathlib.Core.Bool.{true, false}
 use mathlib.Core.List.{List, [], _∷_}
 use lib.ListN.{take, drop}
@@ -43,6 +43,10 @@ module _ (n : ℕ) (src : List ℕ) (at : ℕ) where
   unfolding piece
   piece-short h = rw (lt-leb n (left src at) h)
 
+  piece-fits : {xs : List ℕ} → piece n src at ≡ found xs → n ≤ left src at
+  unfolding piece
+  piece-fits p = leb-true n (left src at) (when-found (leb n (left src at)) _ _ p .0)
+
   pub one-there : {v : ℕ} → n ≤ left src at → v ≡ be (take n (drop at src)) → parsed (num v ∷ []) (at + n) ≡ read (one n free) src at
   unfolding read field
   one-there h e = rw (piece-there h, e)
@@ -67,7 +71,8 @@ number-piece : (a : Ans (List ℕ)) {n e end : ℕ} → parsed (num n ∷ []) e 
 number-piece (found xs) {n} p = let (parts, ends) = parsed-same p in let same : be xs ≡ n = cc in (xs, refl, same, ends)
 number-piece (refused f) p = absurd (found-refused (sym p))
 
-number-no-piece : (a : Ans (List ℕ)) (k : List ℕ → Ans ℕ) (end : ℕ) {f : Refusal} → refused f ≡ next (next a (λ xs. found (be xs))) (λ n. parsed (num n ∷ []) end) → next a k ≡ refused f
+number-no-piece : (a : Ans (List ℕ)) (k : List ℕ → Ans ℕ) (end : ℕ) {f : Refusal}
+    → refused f ≡ next (next a (λ xs. found (be xs))) (λ n. parsed (num n ∷ []) end) → next a k ≡ refused f
 number-no-piece (found xs) k end p = absurd (found-refused p)
 number-no-piece (refused g) k end p = cc
 
@@ -82,18 +87,18 @@ module _ (w : ℕ) (r : Rule) (src : List ℕ) (at : ℕ) where
 
 -- a number ends behind its bytes, and those are in the input
 pub one-ends : (w : ℕ) (src : List ℕ) (at : ℕ) {n e : ℕ} → parsed (num n ∷ []) e ≡ read (one w free) src at → (e ≡ at + w) × (w ≤ left src at)
-unfolding read field piece
-one-ends w src at p =
-    let (xs, s, same, ends) = number-piece (piece w src at) p in
-    (ends, leb-true w (left src at) (when-found (leb w (left src at)) _ _ s .0))
+unfolding read field
+one-ends w src at p = let (xs, s, same, ends) = number-piece (piece w src at) p in (ends, piece-fits w src at s)
 
 -- a number that was read, at the front of a layout: the rule allows it, or not; and one that was not read
 module _ (w : ℕ) (r : Rule) (k : ℕ → Layout) (src : List ℕ) (at : ℕ) where
-  pub number-found : {n e : ℕ} → parsed (num n ∷ []) e ≡ read (one w free) src at → allows r n ≡ true → read (number w r k) src at ≡ also (num n) (read (k n) src e)
+  pub number-found : {n e : ℕ} → parsed (num n ∷ []) e ≡ read (one w free) src at → allows r n ≡ true
+      → read (number w r k) src at ≡ also (num n) (read (k n) src e)
   unfolding read
   number-found p a = rw (judged w r src at p, a, one-ends w src at p .0)
 
-  pub number-breach : {n e : ℕ} → parsed (num n ∷ []) e ≡ read (one w free) src at → allows r n ≡ false → read (number w r k) src at ≡ refused (breach r at n)
+  pub number-breach : {n e : ℕ} → parsed (num n ∷ []) e ≡ read (one w free) src at → allows r n ≡ false
+      → read (number w r k) src at ≡ refused (breach r at n)
   unfolding read
   number-breach p a = rw (judged w r src at p, a)
 
@@ -114,10 +119,8 @@ module _ (n : ℕ) (l : Layout) (src : List ℕ) (at : ℕ) where
 
 -- they end n bytes on, and are in the input
 pub plain-ends : (n : ℕ) (src : List ℕ) (at : ℕ) {ps : List Part} {e : ℕ} → parsed ps e ≡ read (plain n stop) src at → (e ≡ at + n) × (n ≤ left src at)
-unfolding read piece
-plain-ends n src at p =
-    let (xs, s, q) = next-found (piece n src at) _ (sym p) in
-    (sym (parsed-same q .1), leb-true n (left src at) (when-found (leb n (left src at)) _ _ s .0))
+unfolding read
+plain-ends n src at p = let (xs, s, q) = next-found (piece n src at) _ (sym p) in (sym (parsed-same q .1), piece-fits n src at s)
 
 -- ---- a buffer
 
@@ -143,6 +146,19 @@ module _ (w m : ℕ) (l : Layout) (src : List ℕ) (at : ℕ) where
   pub buffer-short : {f : Refusal} → refused f ≡ read (one w free) src at → read (buffer w m l) src at ≡ refused f
   unfolding read
   buffer-short p = rw (unjudged w (lengthTo m) src at p)
+
+-- it ends behind its length, at most m bytes on, and is in the input
+pub buffer-ends : (w m : ℕ) (src : List ℕ) (at : ℕ) {ps : List Part} {e : ℕ} → parsed ps e ≡ read (buffer w m stop) src at
+    → (at + w ≤ e) × (e ≤ at + w + m) × (e - at ≤ left src at)
+unfolding read field
+buffer-ends w m src at {e = e} p =
+    let (n, sized, q) = next-found (field w (lengthTo m) src at) _ (sym p) in
+    let (ds, s, r) = next-found (piece w src at) _ sized in
+    let (most, same) = when-found (leb (be ds) m) _ _ r in
+    let (xs, t, last) = next-found (piece n src (at + w)) _ q in
+    let ends : e ≡ at + w + n = sym (parsed-same last .1) in
+    let size : be ds ≡ n = found-same same in
+    omega (arith, leb-true (be ds) m most, piece-fits w src at s, piece-fits n src (at + w) t)
 
 -- ---- a list
 

@@ -12,6 +12,7 @@ pub mod Refused
 pub mod Written
 pub mod Unwritten
 pub mod Then
+pub mod Judged
 pub mod Rest
 pub mod Split
 pub mod Sizes

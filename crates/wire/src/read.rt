@@ -27,6 +27,7 @@ pub(crate) fn left(len: usize, at: usize) -> usize
     if at <= len { len - at } else { 0 }
 }
 
+// A byte, as wide as the number that it becomes a digit of.
 fn wide(b: u8) -> u64
     ensures { λ r. ⌜ r ≡ b ⌝ }
 {

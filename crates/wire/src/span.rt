@@ -38,11 +38,9 @@ impl Span {
     fn inside(self, n: usize) -> bool
         ensures { λ r. ⌜ r ≡ leb (startOf self + lenOf self) n ⌝ }
     {
-        if self.start <= n {
-            self.len <= n - self.start
-        } else {
-            false
-        }
+        let start = self.start;
+        let len = self.len;
+        if start <= n { len <= n - start } else { false }
     }
 
     // How long its part of s is, or that s has no such part; `place` is the one that a refusal names.

@@ -13,6 +13,7 @@ ghost use Rattle.wire.specs.Bytes.{digits};
 ghost use Rattle.wire.specs.Reading.{found};
 ghost use Rattle.wire.specs.Writing.{cut, written, filled};
 
+// The last digit of n.
 fn low(n: u64) -> u8
     ensures { λ r. ⌜ r ≡ n % 256 ⌝ }
 {
@@ -35,7 +36,8 @@ fn put_digits(n: u64, w: usize, out: &mut [u8], at: usize)
 
 // The last digits of n, as many as the width has, at the place `at` of out; none if they do not fit there.
 pub fn put_number(n: u64, w: Width, out: &mut [u8], at: usize) -> Measure
-    ensures { λ r. ⌜ (measureAnswer r ≡ written at (found (digits (widthOf w) n)) (now (out .entry))) × (now (out .exit) ≡ filled at (found (digits (widthOf w) n)) (now (out .entry))) ⌝ }
+    ensures { λ r. ⌜ (measureAnswer r ≡ written at (found (digits (widthOf w) n)) (now (out .entry)))
+        × (now (out .exit) ≡ filled at (found (digits (widthOf w) n)) (now (out .entry))) ⌝ }
 {
     let count = w.bytes();
     if count <= left(out.len(), at) {
@@ -47,23 +49,25 @@ pub fn put_number(n: u64, w: Width, out: &mut [u8], at: usize) -> Measure
 
 // All bytes of xs at the place `at` of out; none if they do not fit there.
 pub fn put_bytes(xs: &[u8], out: &mut [u8], at: usize) -> Measure
-    ensures { λ r. ⌜ (measureAnswer r ≡ written at (found (now (xs .entry))) (now (out .entry))) × (now (out .exit) ≡ filled at (found (now (xs .entry))) (now (out .entry))) ⌝ }
+    ensures { λ r. ⌜ (measureAnswer r ≡ written at (found (now (xs .entry))) (now (out .entry)))
+        × (now (out .exit) ≡ filled at (found (now (xs .entry))) (now (out .entry))) ⌝ }
 {
-    let count = xs.len();
-    if count <= left(out.len(), at) {
+    let len = xs.len();
+    if len <= left(out.len(), at) {
         let mut i: usize = 0;
-        while i < count {
+        while i < len {
             out[at + i] = xs[i];
             i += 1;
         }
-        return Measure::Size(count);
+        return Measure::Size(len);
     }
-    Measure::No(Refusal::no_room(at, count))
+    Measure::No(Refusal::no_room(at, len))
 }
 
 // The bytes of a span of src at the place `at` of out; none if src has no such span, or they do not fit there.
 pub fn put_span(span: Span, src: &[u8], out: &mut [u8], at: usize) -> Measure
-    ensures { λ r. ⌜ (measureAnswer r ≡ written at (cut (now (src .entry)) (startOf span) (lenOf span) at) (now (out .entry))) × (now (out .exit) ≡ filled at (cut (now (src .entry)) (startOf span) (lenOf span) at) (now (out .entry))) ⌝ }
+    ensures { λ r. ⌜ (measureAnswer r ≡ written at (cut (now (src .entry)) (startOf span) (lenOf span) at) (now (out .entry)))
+        × (now (out .exit) ≡ filled at (cut (now (src .entry)) (startOf span) (lenOf span) at) (now (out .entry))) ⌝ }
 {
     match span.measure(src, at) {
         Measure::Size(_) => put_bytes(span.part(src), out, at),

@@ -19,7 +19,7 @@ plain-requires c κs = search needs
 returns : tie.Need-returns
 returns c =
     let p = c .before .before .before in
-    c .plain .ensures ∙ sym (buffer-body _ _ _ _ _ (ap numberAnswer (sym (p .n .given .1)) ∙ p .before .before .number .ensures) (c .before .if1 .taken))
+    c .plain .ensures ∙ sym (buffer-body _ _ _ _ _ (ap numberAnswer (sym (p .n .given .1)) ∙ p .before .before .number .ensures) (omega arith))
 
 too-long-requires : tie.Need-too-long-requires
 too-long-requires c κs = search needs
@@ -30,7 +30,7 @@ enum-known-f c = search needs
 returns-2 : tie.Need-returns-2
 returns-2 c =
     let p = c .before .before .before in
-    rw (c .too-long .ensures) (sym (buffer-long _ _ _ _ _ (ap numberAnswer (sym (p .n .given .1)) ∙ p .before .before .number .ensures) (c .before .if1 .left)))
+    rw (c .too-long .ensures) (sym (buffer-long _ _ _ _ _ (ap numberAnswer (sym (p .n .given .1)) ∙ p .before .before .number .ensures) (omega arith)))
 
 returns-3 : tie.Need-returns-3
 returns-3 c = let p = c .before in sym (buffer-short _ _ _ _ _ (ap numberAnswer (sym (p .f .given .1)) ∙ p .before .before .number .ensures))

@@ -19,13 +19,13 @@ big-endian-requires : tie.Need-big-endian-requires
 big-endian-requires c κs = omega (arith, width-range (c .before .before .before .before .args .w))
 
 returns : tie.Need-returns
-returns c = rw (← c .before .before .before .bytes .ensures) (one-there _ _ _ (rw (c .before .before .left .ensures) at (c .before .if1 .taken)) (c .big-endian .ensures))
+returns c = rw (← c .before .before .before .bytes .ensures) (one-there _ _ _ (omega arith) (c .big-endian .ensures))
 
 short-requires : tie.Need-short-requires
 short-requires c κs = search needs
 
 returns-2 : tie.Need-returns-2
-returns-2 c = rw (c .short .ensures, ← c .before .before .before .bytes .ensures) (one-short _ _ _ (rw (c .before .before .left .ensures) at (c .before .if1 .left)))
+returns-2 c = rw (c .short .ensures, ← c .before .before .before .bytes .ensures) (one-short _ _ _ (omega arith))
 
 pub number-spec : {M : Type 1} → statement M
 number-spec = tie.close (tie.spec bytes-requires left-requires add-end big-endian-requires returns short-requires returns-2)

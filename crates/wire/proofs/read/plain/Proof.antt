@@ -15,13 +15,13 @@ new-requires : tie.Need-new-requires
 new-requires c κs = search needs
 
 returns : tie.Need-returns
-returns c = rw (c .new .ensures) (plain-there _ _ _ (rw (c .before .before .left .ensures) at (c .before .if1 .taken)))
+returns c = rw (c .new .ensures) (plain-there _ _ _ (omega arith))
 
 short-requires : tie.Need-short-requires
 short-requires c κs = search needs
 
 returns-2 : tie.Need-returns-2
-returns-2 c = rw (c .short .ensures) (plain-short _ _ _ (rw (c .before .before .left .ensures) at (c .before .if1 .left)))
+returns-2 c = rw (c .short .ensures) (plain-short _ _ _ (omega arith))
 
 pub plain-spec : {M : Type 1} → statement M
 plain-spec =

@@ -1,6 +1,5 @@
 -- A turn puts the last digit of those that are left. Assumes nothing.
 use borrow.Author.Needs.{needs}
-use native.Mathlib.Omega.{arith}
 use Rattle.wire.proofs.Filling.{Filling, filling-none, filling-more, filling-all}
 use Rattle.wire.proofs.write.put_digits.Statement.{statement}
 use Rattle.wire.proofs.write.put_digits.Tie as tie
@@ -30,7 +29,7 @@ loop-less : tie.Need-loop-less Inv-loop μ-loop
 loop-less c = search needs
 
 loop-again : tie.Need-loop-again Inv-loop μ-loop
-loop-again c = let l = c .before .before .loop in rw (c .low .ensures) (filling-more _ _ _ _ _ _ _ (c .before .before .before .before .pre) (c .before .loop-test .taken) (l .inv))
+loop-again c = rw (c .low .ensures) (filling-more _ _ _ _ _ _ _ (c .before .before .before .before .pre) (c .before .loop-test .taken) (c .before .before .loop .inv))
 
 same-length : tie.Need-same-length Inv-loop μ-loop
 same-length c = c .before .loop .inv .same

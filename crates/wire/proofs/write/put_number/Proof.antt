@@ -23,21 +23,20 @@ same-length c = search needs
 
 returns : tie.Need-returns
 returns c =
-    let p = c .before .before .before .before in
-    let b = p .before .before in
+    let b = c .before .before .before .before .before .before in
     let a = b .before .before .args in
     rw (← b .bytes .ensures)
-    (fits-put (a .at) (digits (b .bytes .result) (a .n)) (a .out .now) (sym (length-digits (b .bytes .result) (a .n))) (rw (p .before .left .ensures) at (p .if1 .taken)) (c .before .before .put-digits .ensures))
+    (fits-put (a .at) (digits (b .bytes .result) (a .n)) (a .out .now) (sym (length-digits (b .bytes .result) (a .n))) (omega arith) (c .before .before .put-digits .ensures))
 
 no-room-requires : tie.Need-no-room-requires
 no-room-requires c κs = search needs
 
 returns-2 : tie.Need-returns-2
 returns-2 c =
-    let p = c .before in
-    let b = p .before .before in
+    let b = c .before .before .before in
     let a = b .before .before .args in
-    rw (c .no-room .ensures, ← b .bytes .ensures) (fits-not (a .at) (digits (b .bytes .result) (a .n)) (a .out .now) (sym (length-digits (b .bytes .result) (a .n))) (rw (p .before .left .ensures) at (p .if1 .left)))
+    rw (c .no-room .ensures, ← b .bytes .ensures)
+    (fits-not (a .at) (digits (b .bytes .result) (a .n)) (a .out .now) (sym (length-digits (b .bytes .result) (a .n))) (omega arith))
 
 pub put-number-spec : {M : Type 1} → statement M
 put-number-spec = tie.close (tie.spec bytes-requires left-requires put-digits-requires same-length returns no-room-requires returns-2)

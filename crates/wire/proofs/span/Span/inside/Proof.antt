@@ -4,7 +4,7 @@ use Rattle.wire.proofs.span.Span.inside.Statement.{statement}
 use Rattle.wire.proofs.span.Span.inside.Tie as tie
 
 returns : tie.Need-returns
-returns c = inside-of _ _ _ (c .before .before .if1 .taken)
+returns c = inside-of _ _ _ (c .if1 .taken)
 
 returns-2 : tie.Need-returns-2
 returns-2 c = outside-of _ _ _ (c .if1 .left)

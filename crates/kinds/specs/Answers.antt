@@ -1,0 +1,44 @@
+-- What the answers of the code's own readers mean. Assumes nothing.
+use Prim.Native.Nat.{suc}
+use mathlib.Core.List.{[], _∷_}
+use Rattle.wire.specs.declared.choice.Choice.{Choice}
+use Rattle.wire.specs.Reading.{num, Ans, refused, Parsed, parsed}
+use Rattle.kinds.specs.declared.uint.Uint8Read.{Uint8Read}
+use Rattle.kinds.specs.declared.uint.Uint16Read.{Uint16Read}
+use Rattle.kinds.specs.declared.uint.Uint32Read.{Uint32Read}
+use Rattle.kinds.specs.declared.codes.AlgRead.{AlgRead}
+use Rattle.kinds.specs.declared.codes.CurveRead.{CurveRead}
+use Rattle.kinds.specs.declared.codes.StRead.{StRead}
+use Rattle.kinds.specs.declared.codes.DigestLen.{DigestLen}
+
+-- a number that was read, and where it ends
+abbrev pub uint8Answer : Uint8Read → Ans Parsed
+uint8Answer (Uint8Read.Found n e) = parsed (num n ∷ []) e
+uint8Answer (Uint8Read.No f) = refused f
+
+abbrev pub uint16Answer : Uint16Read → Ans Parsed
+uint16Answer (Uint16Read.Found n e) = parsed (num n ∷ []) e
+uint16Answer (Uint16Read.No f) = refused f
+
+abbrev pub uint32Answer : Uint32Read → Ans Parsed
+uint32Answer (Uint32Read.Found n e) = parsed (num n ∷ []) e
+uint32Answer (Uint32Read.No f) = refused f
+
+-- a code that was read, and where it ends
+abbrev pub algAnswer : AlgRead → Ans Parsed
+algAnswer (AlgRead.Found a e) = parsed (num (a .0) ∷ []) e
+algAnswer (AlgRead.No f) = refused f
+
+abbrev pub curveAnswer : CurveRead → Ans Parsed
+curveAnswer (CurveRead.Found c e) = parsed (num (c .0) ∷ []) e
+curveAnswer (CurveRead.No f) = refused f
+
+abbrev pub attestationAnswer : StRead → Ans Parsed
+attestationAnswer (StRead.Found t e) = parsed (num (t .0) ∷ []) e
+attestationAnswer (StRead.No f) = refused f
+
+-- a digest's length as the arm of its union: one more, so that no digest is the empty arm
+abbrev pub digestChoice : DigestLen → Choice
+digestChoice (DigestLen.Bytes n) = Choice.The (suc n)
+digestChoice DigestLen.Empty = Choice.The 0
+digestChoice DigestLen.Nothing = Choice.Nothing
