@@ -13,6 +13,7 @@ pub mod Written
 pub mod Unwritten
 pub mod Then
 pub mod Judged
+pub mod Walks
 pub mod Rest
 pub mod Split
 pub mod Sizes

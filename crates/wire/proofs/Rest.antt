@@ -7,7 +7,7 @@ use Rattle.wire.specs.declared.fault.Refusal.{Refusal}
 use Rattle.wire.specs.declared.choice.Choice.{Choice}
 use Rattle.wire.specs.declared.choice.Choice.the-variants.{Nothing, The}
 use Rattle.wire.specs.Faults.{noSuchArm}
-use Rattle.wire.specs.Layout.{Rule, Layout, stop, number, one, _then_}
+use Rattle.wire.specs.Layout.{Rule, Layout, stop, number, buffer, one, _then_}
 use Rattle.wire.specs.Reading.{Part, num, tag, Ans, found, refused, Parsed, parsed, next, also, field, read}
 use Rattle.wire.specs.Unions.{union}
 use Rattle.wire.proofs.Steps.{found-refused, parsed-same}
@@ -98,6 +98,18 @@ past-then {m = m} {src} {e = e} {e′} {g} k {ps} x p =
 pub fails-then : {l : Layout} {src : List ℕ} {at e : ℕ} {g : List Part → List Part} {f : Refusal} (k m : Layout)
     → Rest l src at g (k then m) e → refused f ≡ read k src e → refused f ≡ read l src at
 fails-then {src = src} {e = e} k m x p = fails x (ap (λ a. both a (λ e. read m src e)) p ∙ sym (read-then k m src e))
+
+-- ---- a buffer, and a list, behind which something stands
+
+pub past-buffer : {l k : Layout} {src : List ℕ} {at e e′ w b : ℕ} {g : List Part → List Part} {p : Part}
+    → Rest l src at g (buffer w b k) e → parsed (p ∷ []) e′ ≡ read (buffer w b stop) src e → Rest l src at (λ qs. g (p ∷ qs)) k e′
+unfolding _then_
+past-buffer {w = w} {b} x p = past-then (buffer w b stop) x p
+
+pub fails-buffer : {l k : Layout} {src : List ℕ} {at e w b : ℕ} {g : List Part → List Part} {f : Refusal}
+    → Rest l src at g (buffer w b k) e → refused f ≡ read (buffer w b stop) src e → refused f ≡ read l src at
+unfolding _then_
+fails-buffer {k = k} {w = w} {b} x p = fails-then (buffer w b stop) k x p
 
 -- ---- the arm of a union
 

@@ -1,0 +1,86 @@
+// Kind 14, the PCR selection list: a count, and so many items. A record keeps the whole list as one span.
+use crate::tpms::PcrSelectionRead;
+use crate::tpms::TpmsPcrSelection;
+use kinds::uint::Uint32Read;
+use kinds::uint::uint32;
+use wire::fault::Refusal;
+use wire::measure::Measure;
+use wire::span::Span;
+ghost use mathlib.Core.Path.{_≡_};
+ghost use Rattle.wire.specs.Answers.{measureAnswer};
+ghost use Rattle.wire.specs.Reading.{read, walk, list};
+ghost use Rattle.kinds.specs.Kinds.{pcrSelection, pcrSelections};
+ghost use Rattle.schemes.specs.Answers.{pcrSelectionsAnswer};
+
+// The most items that a list may have.
+pub const MAX_SELECTIONS: u32 = 16;
+
+pub struct TpmlPcrSelection {
+    pub items: Span,
+}
+
+pub enum PcrSelectionsRead {
+    Found(TpmlPcrSelection, usize),
+    No(Refusal),
+}
+
+fn wide(n: u32) -> u64
+    ensures { λ r. ⌜ r ≡ n ⌝ }
+{
+    n as u64
+}
+
+// Where `count` items from `at` on end. The walk stops at the first that is not one.
+fn walk_items(s: &[u8], at: usize, count: u32) -> Measure
+    ensures { λ r. ⌜ measureAnswer r ≡ walk (λ s a. read pcrSelection s a) count (now (s .entry)) at ⌝ }
+{
+    let mut end = at;
+    let mut i: u32 = 0;
+    loop {
+        if count <= i {
+            break Measure::Size(end);
+        }
+        match TpmsPcrSelection::unmarshal(s, end) {
+            PcrSelectionRead::Found(_, e) => {
+                end = e;
+                i += 1;
+            }
+            PcrSelectionRead::No(f) => break Measure::No(f),
+        }
+    }
+}
+
+// Where the list that begins at `at` ends.
+pub fn list_end(s: &[u8], at: usize) -> Measure
+    ensures { λ r. ⌜ measureAnswer r ≡ list 16 (λ s a. read pcrSelection s a) (now (s .entry)) at ⌝ }
+{
+    match uint32(s, at) {
+        Uint32Read::Found(n, e) => {
+            if n <= MAX_SELECTIONS {
+                return walk_items(s, e, n);
+            }
+            Measure::No(Refusal::too_many_items(at, wide(n)))
+        }
+        Uint32Read::No(f) => Measure::No(f),
+    }
+}
+
+impl TpmlPcrSelection {
+    // Kind 14, TPML_PCR_SELECTION, read.
+    pub fn unmarshal(s: &[u8], at: usize) -> PcrSelectionsRead
+        ensures { λ r. ⌜ pcrSelectionsAnswer r ≡ read pcrSelections (now (s .entry)) at ⌝ }
+    {
+        match list_end(s, at) {
+            Measure::Size(e) => {
+                let len = e - at;
+                PcrSelectionsRead::Found(
+                    TpmlPcrSelection {
+                        items: Span::new(at, len),
+                    },
+                    e,
+                )
+            }
+            Measure::No(f) => PcrSelectionsRead::No(f),
+        }
+    }
+}
