@@ -8,7 +8,7 @@ use Rattle.wire.specs.declared.choice.Choice.{Choice}
 use Rattle.wire.specs.declared.choice.Choice.the-variants.{Nothing, The}
 use Rattle.wire.specs.Faults.{noSuchArm}
 use Rattle.wire.specs.Layout.{Rule, Layout, stop, number, buffer, one, _then_}
-use Rattle.wire.specs.Reading.{Part, num, tag, Ans, found, refused, Parsed, parsed, next, also, field, read}
+use Rattle.wire.specs.Reading.{fronted, Part, num, tag, Ans, found, refused, Parsed, parsed, next, also, field, read}
 use Rattle.wire.specs.Unions.{union}
 use Rattle.wire.proofs.Steps.{found-refused, parsed-same}
 use Rattle.wire.proofs.Then.{both, read-then}
@@ -16,10 +16,6 @@ use Rattle.wire.proofs.Then.{both, read-then}
 -- an answer of a callee, once it is known which one it is
 pub told : {A B : Type 0} (f : A → B) {a b : A} {x : B} → a ≡ b → f a ≡ x → f b ≡ x
 told f e p = sym (ap f e) ∙ p
-
--- an answer with parts in front of its own
-abbrev pub fronted : (List Part → List Part) → Ans Parsed → Ans Parsed
-fronted g a = next a (λ r. parsed (g (r .parts)) (r .stops))
 
 -- reading l from `at` is reading m from e, with the parts that were read in front
 pub record Rest (l : Layout) (src : List ℕ) (at : ℕ) (g : List Part → List Part) (m : Layout) (e : ℕ) : Type 0 where

@@ -41,6 +41,10 @@ parsed ps e = found (record { parts = ps; stops = e })
 abbrev pub also : Part → Ans Parsed → Ans Parsed
 also p a = next a (λ r. parsed (p ∷ r .parts) (r .stops))
 
+-- an answer with parts in front of its own
+abbrev pub fronted : (List Part → List Part) → Ans Parsed → Ans Parsed
+fronted g a = next a (λ r. parsed (g (r .parts)) (r .stops))
+
 -- In the readers below src is the whole input, and `at` the place where to read on.
 
 abbrev pub Reader : Type 0 → Type 0
