@@ -13,7 +13,7 @@ use Rattle.wire.specs.Unions.{Case, pick, by, union, look}
 use Rattle.wire.proofs.Sizes.{stop-most, no-arm-most, arm-most, number-most, plain-most, buffer-most, counted-most, then-most, most-wider, stop-reaches, arm-reaches, number-reaches, plain-reaches, buffer-reaches, counted-reaches, then-reaches}
 use Rattle.kinds.specs.Codes.{algorithms, attestations, isAlgorithm, isAttestation, alg, curve, attestation, yesNo, magic}
 use Rattle.kinds.specs.Tables.{digestRows, digestArm, asymArm, sigArm, keyedhashArm, kdfArm, cipherArm, typeArm, sensitiveArm, signatureArm, attestArm}
-use Rattle.kinds.specs.Kinds.{schemeHash, schemeXor, keyedhashCases, kdfCases, keyBitsCases, modeCases, parmsCases, uniqueCases, sensitiveCases, signatureCases, attestCases, haBody, asymBody, sigBody, keyedhashBody, kdfBody, keyBitsBody, modeBody, parmsBody, uniqueBody, sensitiveBody, signatureBody, attestBody, haBy, asymBy, sigBy, keyedhashBy, kdfBy, keyBitsBy, modeBy, parmsBy, uniqueBy, sensitiveBy, signatureBy, attestBy, ha, symDef, kdfScheme, keyedhashScheme, sigScheme, asymScheme, rsaParms, eccParms, eccPoint, signatureRsa, signatureEcc, publicParms, signature, publicArea, sensitive, pcrSelection, pcrSelections, clockInfo, certifyInfo, creationInfo, quoteInfo, commandAuditInfo, sessionAuditInfo, timeAttestInfo, nvCertifyInfo, nvDigestCertifyInfo, attest, kinds}
+use Rattle.kinds.specs.Kinds.{schemeHash, schemeXor, keyedhashCases, kdfCases, keyBitsCases, modeCases, parmsCases, uniqueCases, sensitiveCases, signatureCases, attestCases, haBody, asymBody, sigBody, keyedhashBody, kdfBody, keyBitsBody, modeBody, parmsBody, uniqueBody, sensitiveBody, signatureBody, attestBody, haBy, asymBy, sigBy, keyedhashBy, kdfBy, keyBitsBy, modeBy, parmsBy, uniqueBy, sensitiveBy, signatureBy, attestBy, ha, symDef, kdfScheme, keyedhashScheme, sigScheme, asymScheme, rsaParms, eccParms, eccPoint, signatureRsa, signatureEcc, publicParms, signature, publicArea, sensitive, pcrSelection, pcrSelections, clockInfo, certifyInfo, creationInfo, quoteInfo, commandAuditInfo, sessionAuditInfo, timeInfo, timeAttestInfo, nvCertifyInfo, nvDigestCertifyInfo, attest, kinds}
 use Rattle.kinds.proofs.Choices.{Each, chosen-has}
 
 -- ---- unions: every arm that can be chosen is small enough
@@ -193,7 +193,7 @@ unfolding clockInfo
 clock-most = follows 8 9 free (λ n. follows 4 5 free (λ n. follows 4 1 free (λ n. one-most 1 yesNo)))
 
 attest-by-most : (v : ℕ) → AtMost (attestBy v) 2120
-unfolding attestBy certifyInfo creationInfo quoteInfo commandAuditInfo sessionAuditInfo timeAttestInfo nvCertifyInfo nvDigestCertifyInfo
+unfolding attestBy certifyInfo creationInfo quoteInfo commandAuditInfo sessionAuditInfo timeInfo timeAttestInfo nvCertifyInfo nvDigestCertifyInfo
 attest-by-most v =
     union-most (attestArm v) attestBody v (λ t e. by-most 2120 attestCases (
       most-wider (omega arith) (buffer-most 2 66 68 (buffer-most 2 66 0 stop-most)),
@@ -206,7 +206,7 @@ attest-by-most v =
             (
               most-wider (omega arith) (follows 1 66 yesNo (λ n. buffer-most 2 64 0 stop-most)),
               (
-                most-wider (omega arith) (follows 8 25 free (λ n. then-most _ _ 17 8 clock-most (one-most 8 free))),
+                most-wider (omega arith) (then-most _ _ 25 8 (follows 8 17 free (λ n. clock-most)) (one-most 8 free)),
                 (
                   buffer-most 2 66 2052 (follows 2 2050 free (λ n. buffer-most 2 2048 0 stop-most)),
                   (most-wider (omega arith) (buffer-most 2 66 66 (buffer-most 2 64 0 stop-most)), tt),

@@ -274,9 +274,13 @@ commandAuditInfo = number 8 free (λ auditCounter. number 2 alg (λ digestAlg. d
 unfoldable pub sessionAuditInfo : Layout
 sessionAuditInfo = number 1 yesNo (λ exclusiveSession. digest stop)
 
+-- TPMS_TIME_INFO
+unfoldable pub timeInfo : Layout
+timeInfo = number 8 free (λ time. clockInfo)
+
 -- TPMS_TIME_ATTEST_INFO: time and clock, then firmware
 unfoldable pub timeAttestInfo : Layout
-timeAttestInfo = number 8 free (λ time. clockInfo then one 8 free)
+timeAttestInfo = timeInfo then one 8 free
 
 -- TPMS_NV_CERTIFY_INFO: index name, offset, contents
 unfoldable pub nvCertifyInfo : Layout
