@@ -1,6 +1,7 @@
 pub mod Digits
 pub mod Stand
 pub mod Steps
+pub mod Once
 pub mod Rules
 pub mod Complete
 pub mod Sound
