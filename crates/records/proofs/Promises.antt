@@ -1,0 +1,89 @@
+-- The promises of reading, for every kind by one statement over the kind's number. Assumes nothing.
+use Prim.Native.Nat.{ℕ, _+_}
+use mathlib.Core.Path.{_≡_, refl, sym, ap, _∙_}
+use mathlib.Core.Logic.{_⊎_}
+use mathlib.Core.Bool.{true}
+use mathlib.Core.List.{List, [], _∷_, _++_}
+use lib.ListN.{length}
+use Rattle.wire.specs.declared.fault.Fault.the-variants.{Short}
+use Rattle.wire.specs.declared.fault.Refusal.{Refusal}
+use Rattle.wire.specs.Bytes.{Bytes}
+use Rattle.wire.specs.Layout.{Layout}
+use Rattle.wire.specs.Reading.{Ans, found, refused, Parsed, parsed, read}
+use Rattle.wire.specs.Grammar.{Token, Spells, Stands, Starts, placed, shown}
+use Rattle.wire.specs.Refusals.{Refuses}
+use Rattle.wire.specs.Editions.{Later, Newer, Foreign}
+use Rattle.wire.proofs.Stand.{stands-start}
+use Rattle.wire.proofs.Steps.{next-found, found-same}
+use Rattle.wire.proofs.Complete.{read-complete, placed-shows}
+use Rattle.wire.proofs.Sound.{read-sound}
+use Rattle.wire.proofs.Prefix.{starts-read, refused-none, none-refused, prefix-free, one-spelling}
+use Rattle.wire.proofs.Refused.{refuses-read, read-refuses}
+use Rattle.wire.proofs.Stable.{IsShort, cut-short}
+use Rattle.wire.proofs.Later.{later-read, later-cut}
+use Rattle.kinds.specs.Kinds.{isKind, layoutOf, readKind}
+use Rattle.records.specs.Ends.{endOf}
+use Rattle.records.proofs.ByKind.{of-kind}
+
+module _ (k : ℕ) where
+  -- ---- a record is found exactly where a legal one starts
+
+  -- where a legal record of the kind starts, it is read, to its end, and shows what it says, whatever stands behind
+  pub legal-is-read : {ts : List Token} {bs : List ℕ} (d : Spells (layoutOf k) ts bs) (tail : List ℕ)
+      → (read (layoutOf k) (bs ++ tail) 0 ≡ parsed (placed d 0) (0 + length bs)) × (shown (bs ++ tail) (placed d 0) ≡ ts)
+  legal-is-read {bs = bs} d tail = (read-complete d (stands-start bs tail), placed-shows d (stands-start bs tail))
+
+  -- what is read is a legal record that starts there
+  pub read-is-legal : (src : List ℕ) (at : ℕ) (r : Parsed) → Bytes src → read (layoutOf k) src at ≡ found r → Starts (layoutOf k) src at (r .stops)
+  read-is-legal = read-sound (layoutOf k)
+
+  -- a refusal means that no legal record starts there
+  pub refused-means-none : {src : List ℕ} {at e : ℕ} {f : Refusal} → read (layoutOf k) src at ≡ refused f → Starts (layoutOf k) src at e → ⊥
+  refused-means-none = refused-none
+
+  -- and where none starts, there is a refusal
+  pub none-means-refused : (src : List ℕ) (at : ℕ) → Bytes src → ((e : ℕ) → Starts (layoutOf k) src at e → ⊥) → (f : Refusal) × (read (layoutOf k) src at ≡ refused f)
+  none-means-refused = none-refused (layoutOf k)
+
+  -- it names the first field, in wire order, that is not as the layout has it
+  pub refusal-is-first : (src : List ℕ) (at : ℕ) (f : Refusal) → Bytes src → read (layoutOf k) src at ≡ refused f → Refuses src (layoutOf k) at f
+  refusal-is-first = read-refuses (layoutOf k)
+
+  pub first-is-refusal : {src : List ℕ} {at : ℕ} {f : Refusal} → Refuses src (layoutOf k) at f → read (layoutOf k) src at ≡ refused f
+  first-is-refusal = refuses-read
+
+  -- ---- records side by side, and cut
+
+  pub no-record-begins-another : {ts us : List Token} {bs : List ℕ} (more : List ℕ) → Spells (layoutOf k) ts bs → Spells (layoutOf k) us (bs ++ more) → (more ≡ []) × (ts ≡ us)
+  no-record-begins-another = prefix-free
+
+  pub one-record-one-spelling : {ts : List Token} {bs cs : List ℕ} → Spells (layoutOf k) ts bs → Spells (layoutOf k) ts cs → bs ≡ cs
+  one-record-one-spelling = one-spelling
+
+  pub cut-is-short : {ts : List Token} (before xs : List ℕ) (y : ℕ) (ys : List ℕ) → Bytes before → Spells (layoutOf k) ts (xs ++ (y ∷ ys)) → IsShort (read (layoutOf k) (before ++ xs) (length before))
+  cut-is-short = cut-short
+
+  -- ---- later editions
+
+  -- a legal record of a later edition, with anything behind it, is read the same and stops where it stops, or is refused at the first
+  -- code or arm that is not ours
+  pub later-edition : {l′ : Layout} {ts : List Token} {bs : List ℕ} → Later (layoutOf k) l′ → Spells l′ ts bs → (tail : List ℕ)
+      → (read (layoutOf k) (bs ++ tail) 0 ≡ read l′ (bs ++ tail) 0) ⊎ ((f : Refusal) × Foreign (layoutOf k) (bs ++ tail) 0 f × (read (layoutOf k) (bs ++ tail) 0 ≡ refused f))
+  later-edition {bs = bs} x d tail = later-read x d (stands-start bs tail)
+
+  -- and one that is cut is refused
+  pub later-edition-cut : {l′ : Layout} {ts : List Token} (before xs : List ℕ) (y : ℕ) (ys : List ℕ) → Bytes before → Later (layoutOf k) l′ → Spells l′ ts (xs ++ (y ∷ ys))
+      → (f : Refusal) × (read (layoutOf k) (before ++ xs) (length before) ≡ refused f) × ((f .fault ≡ Short) ⊎ Newer f)
+  later-edition-cut = later-cut
+
+  -- ---- by number: what `record_end` answers
+
+  -- the end that is answered is where a legal record of that kind ends
+  pub end-is-legal : (src : List ℕ) (at : ℕ) {e : ℕ} → Bytes src → isKind k ≡ true → endOf (readKind k src at) ≡ found e → Starts (layoutOf k) src at e
+  end-is-legal src at {e} b h p =
+      let (r, q, s) = next-found (read (layoutOf k) src at) _ (ap endOf (of-kind k src at refl h) ∙ p) in
+      rw (← found-same s) (read-sound (layoutOf k) src at r b q)
+
+  -- and where one ends, that end is answered
+  pub legal-has-end : {src : List ℕ} {at e : ℕ} → isKind k ≡ true → Starts (layoutOf k) src at e → endOf (readKind k src at) ≡ found e
+  legal-has-end {src} {at} h d = sym (ap endOf (of-kind k src at refl h)) ∙ ap endOf (starts-read d)
