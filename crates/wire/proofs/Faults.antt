@@ -1,4 +1,4 @@
--- The paper's numbers tell the faults apart. Assumes nothing.
+-- The format's numbers tell the faults apart. Assumes nothing.
 use Prim.Native.Nat.{ℕ}
 use mathlib.Core.Path.{_≡_, refl, sym, ap, _∙_}
 use mathlib.Core.List.{[], _∷_}

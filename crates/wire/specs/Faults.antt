@@ -1,4 +1,4 @@
--- The thirteen faults: the paper's number of each, and what the value beside it says. And refusals by name. Assumes nothing.
+-- The thirteen faults: the format's number of each, and what the value beside it says. And refusals by name. Assumes nothing.
 use Prim.Native.Nat.{ℕ}
 use Rattle.wire.specs.declared.fault.Fault.{Fault}
 use Rattle.wire.specs.declared.fault.Fault.the-variants.{Short, UnknownCode, NoArm, TooLong, TooManyItems, BadValue, Mismatch, BadSpan, NoRoom, NoField, Trailing, BadKind, Oversize}
@@ -29,7 +29,7 @@ pub data Meaning : Type 0 where
   -- one more byte than a record may have, 4,097
   oneTooMany : Meaning
 
--- a row of the paper's table
+-- a row of the format's table of faults
 pub record Row : Type 0 where
   pub number : ℕ
   pub value : Meaning
@@ -37,7 +37,7 @@ pub record Row : Type 0 where
 abbrev pub row : ℕ → Meaning → Row
 row n m = record { number = n; value = m }
 
--- the paper's table
+-- the table of faults, as the format has it on paper (docs/FORMAT.md)
 abbrev pub paper : Fault → Row
 paper Short = row 1 bytesNeeded
 paper UnknownCode = row 2 theCode

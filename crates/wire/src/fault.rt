@@ -1,4 +1,4 @@
-// Why something is refused. A refusal has a fault, a place and a value; the paper's number of each fault and what its
+// Why something is refused. A refusal has a fault, a place and a value; the format's number of each fault and what its
 // value says stand in specs/Faults.antt. Code builds a refusal by its name, below, and in no other way.
 ghost use mathlib.Core.Path.{_≡_};
 ghost use Rattle.wire.specs.Faults.{paper, short, unknownCode, noSuchArm, tooLong, tooManyItems, badValue, mismatch, badSpan, noRoom, noField, trailing, badKind, oversize};
