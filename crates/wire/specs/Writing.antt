@@ -1,15 +1,16 @@
 -- What a writer of a layout answers on any record, given by its parts, and any source: the record's bytes, or the first refusal in
--- wire order. And what a lent buffer holds afterwards; and the byte fields of a record, by index. Assumes nothing.
+-- wire order. And what a lent buffer holds afterwards; and the byte fields of a record, and the items of its list, by index.
+-- Assumes nothing.
 use Prim.Native.Nat.{ℕ, zero, suc, _+_, _-_, _^_}
 use mathlib.Core.List.{List, [], _∷_, _++_}
 use mathlib.Core.Bool.{Bool, true, false, _&&_}
 use lib.ListN.{length, take, drop}
 use lib.Dec.{leb, ltb, eqb}
-use Rattle.wire.specs.Bytes.{digits}
+use Rattle.wire.specs.Bytes.{be, digits}
 use Rattle.wire.specs.declared.fault.Refusal.{Refusal}
 use Rattle.wire.specs.Faults.{refusal, noSuchArm, mismatch, badSpan, noRoom, noField, trailing}
 use Rattle.wire.specs.Layout.{Rule, allows, breach, lengthTo, Layout, stop, noArm, arm, number, plain, buffer, counted}
-use Rattle.wire.specs.Reading.{Part, num, tag, span, Ans, found, refused, next, when, list, read}
+use Rattle.wire.specs.Reading.{Part, num, tag, span, Ans, found, refused, next, when, Parsed, Reader, list, read}
 
 -- The parts are taken one by one. `odd` is the answer to parts of another shape, which no record of the code has.
 abbrev pub odd : {A : Type 0} → ℕ → Ans A
@@ -130,3 +131,19 @@ partOf (refused f) = []
 abbrev pub sizeOf : Ans (List ℕ) → Ans ℕ
 sizeOf (found xs) = found (length xs)
 sizeOf (refused f) = refused f
+
+-- ---- the items of a list
+
+-- of n items from `at` on the bytes of the one with that index, from its first field to its last
+abbrev pub pickItem : Reader Parsed → (n index asked : ℕ) → Reader (List ℕ)
+pickItem item zero i asked src at = refused (noField asked)
+pickItem item (suc n) zero asked src at = next (item src at) (λ r. found (take (r .stops - at) (drop at src)))
+pickItem item (suc n) (suc i) asked src at = next (item src at) (λ r. pickItem item n i asked src (r .stops))
+
+-- The bytes of an item of a record's list. `lists` has the list, if the record holds one. The whole list is walked over first, as a
+-- writer walks over it, and places count from its start
+unfoldable pub itemOf : (m : ℕ) (item : Layout) (lists : List Part) (index : ℕ) → List ℕ → Ans (List ℕ)
+itemOf m item lists i src =
+    next (pickField lists zero i src)
+    (λ xs. next (whole m item xs)
+    (λ ys. pickItem (λ s a. read item s a) (be (take 4 ys)) i i ys 4))

@@ -1,7 +1,7 @@
 // Why something is refused. A refusal has a fault, a place and a value; the format's number of each fault and what its
 // value says stand in specs/Faults.antt. Code builds a refusal by its name, below, and in no other way.
 ghost use mathlib.Core.Path.{_≡_};
-ghost use Rattle.wire.specs.Faults.{paper, short, unknownCode, noSuchArm, tooLong, tooManyItems, badValue, mismatch, badSpan, noRoom, noField, trailing, badKind, oversize};
+ghost use Rattle.wire.specs.Faults.{paper, refusal, short, unknownCode, noSuchArm, tooLong, tooManyItems, badValue, mismatch, badSpan, noRoom, noField, trailing, badKind, oversize};
 
 pub enum Fault {
     Short,
@@ -189,6 +189,19 @@ impl Refusal {
             fault: Fault::Oversize,
             place: 0,
             value: 4097,
+        }
+    }
+
+    // The same, at another place.
+    pub fn placed_at(self, place: usize) -> Refusal
+        ensures { λ r. ⌜ r ≡ refusal (self .fault) place (self .value) ⌝ }
+    {
+        let fault = self.fault;
+        let value = self.value;
+        Refusal {
+            fault: fault,
+            place: place,
+            value: value,
         }
     }
 }
