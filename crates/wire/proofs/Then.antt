@@ -155,7 +155,7 @@ ahead-onto w at (found xs) b c k h =
 ahead-onto w at (refused f) b c k h = refl
 
 -- a list's own bytes are written
-whole-same : (m : ℕ) (i : Layout) (xs : List ℕ) {ys : List ℕ} → whole m i xs ≡ found ys → ys ≡ xs
+pub whole-same : (m : ℕ) (i : Layout) (xs : List ℕ) {ys : List ℕ} → whole m i xs ≡ found ys → ys ≡ xs
 unfolding whole
 whole-same m i xs p =
     let (e, listed, q) = next-found (list m (λ s a. read i s a) xs 0) _ p in

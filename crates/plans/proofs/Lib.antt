@@ -1,0 +1,3 @@
+pub mod Pushed
+pub mod Laws
+pub mod Numbers

@@ -1,0 +1,7 @@
+// Where the byte fields and the lists of a plan stand.
+use wire::span::Span;
+
+pub enum Place {
+    At(Span),
+    Nowhere,
+}

@@ -1,0 +1,4 @@
+// Plans: a record as a row of steps. Pushing them is each type's own; judging, putting, byte fields and list items are one loop each.
+pub mod find;
+pub mod plan;
+pub mod step;
