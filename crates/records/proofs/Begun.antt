@@ -1,0 +1,73 @@
+-- Every record of a kind has a byte; so where one is read, there is input. Assumes nothing.
+use Prim.Native.Nat.{ℕ, zero, suc, _<_, _≤_}
+use native.Mathlib.Omega.{arith}
+use mathlib.Core.Path.{_≡_, refl, ap}
+use mathlib.Core.Bool.{Bool, true, false, _&&_, false≢true}
+use mathlib.Core.List.{List, [], _∷_}
+use lib.ListN.{length, getD, length-append}
+use Rattle.wire.specs.Bytes.{Bytes, digits}
+use Rattle.wire.specs.Layout.{Layout, stop, noArm, arm, number, plain, buffer, counted}
+use Rattle.wire.specs.Reading.{Part, parsed, read}
+use Rattle.wire.specs.Grammar.{Token, Spells, says, counts}
+use Rattle.wire.proofs.Digits.{length-digits}
+use Rattle.wire.proofs.Stand.{stands-left}
+use Rattle.wire.proofs.Sound.{read-sound}
+use Rattle.wire.proofs.Split.{no-arm-no-record}
+use Rattle.kinds.specs.Kinds.{ha, symDef, kdfScheme, keyedhashScheme, sigScheme, asymScheme, publicParms, signature, publicArea, sensitive, attest, pcrSelections, kinds, layoutOf}
+
+-- the layout begins with a number or with a count, or no bytes spell it
+abbrev begins : Layout → Bool
+begins stop = false
+begins (noArm v) = true
+begins (arm v t l) = false
+begins (number zero r k) = false
+begins (number (suc w) r k) = true
+begins (plain n l) = false
+begins (buffer w m l) = false
+begins (counted m i l) = true
+
+-- then every record of it has a byte
+begins-some : (l : Layout) {ts : List Token} {bs : List ℕ} → begins l ≡ true → Spells l ts bs → 0 < length bs
+begins-some stop b d = absurd (false≢true b)
+begins-some (noArm v) b d = absurd (no-arm-no-record d)
+begins-some (arm v t l) b d = absurd (false≢true b)
+begins-some (number zero r k) b d = absurd (false≢true b)
+begins-some (number (suc w) r k) b (says {cs = cs} n h a e d) = omega (arith, ap length e, length-append (digits (suc w) n) cs, length-digits (suc w) n)
+begins-some (plain n l) b d = absurd (false≢true b)
+begins-some (buffer w m l) b d = absurd (false≢true b)
+begins-some (counted m i l) b (counts {xs = xs} {ys} {cs} n h le c is e d) =
+    omega (arith, ap length e, length-append xs cs, ap length c, length-append (digits 4 n) ys, length-digits 4 n)
+
+both-true : (s t : Bool) → (s && t) ≡ true → (s ≡ true) × (t ≡ true)
+both-true true t e = (refl, e)
+both-true false t e = absurd (false≢true e)
+
+-- the same of each layout of a list, and so of the one with that index
+abbrev begin : List Layout → Bool
+begin [] = true
+begin (l ∷ ls) = begins l && begin ls
+
+begins-at : (ls : List Layout) (v : ℕ) → begin ls ≡ true → (k : ℕ) → begins (getD ls k (noArm v)) ≡ true
+begins-at [] v h k = refl
+begins-at (l ∷ ls) v h zero = both-true (begins l) (begin ls) h .0
+begins-at (l ∷ ls) v h (suc k) = begins-at ls v (both-true (begins l) (begin ls) h .1) k
+
+kinds-begin : begin kinds ≡ true
+unfolding kinds ha symDef kdfScheme keyedhashScheme sigScheme asymScheme publicParms signature publicArea sensitive attest pcrSelections
+kinds-begin = refl
+
+kind-begins : (k : ℕ) → begins (layoutOf k) ≡ true
+unfolding layoutOf
+kind-begins zero = refl
+kind-begins (suc k) = begins-at kinds 0 kinds-begin k
+
+pub kind-has-bytes : (k : ℕ) {ts : List Token} {bs : List ℕ} → Spells (layoutOf k) ts bs → 0 < length bs
+kind-has-bytes k d = begins-some (layoutOf k) (kind-begins k) d
+
+-- so it was read from a place in the input to a place behind that one, and not past the end
+pub read-lies-in : (k : ℕ) (src : List ℕ) (at : ℕ) {ps : List Part} {e : ℕ} → Bytes src → read (layoutOf k) src at ≡ parsed ps e → (at < e) × (e ≤ length src)
+read-lies-in k src at {ps} {e} b p =
+    let d = read-sound (layoutOf k) src at (record { parts = ps; stops = e }) b p in
+    let some : 0 < length (d .front) = kind-has-bytes k (d .spells) in
+    let room = stands-left (d .stands) in
+    (omega (arith, d .ends), omega (arith, d .ends))
