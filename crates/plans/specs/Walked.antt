@@ -39,6 +39,11 @@ Inside (Step.Buffer m s) src = startOf s + lenOf s ≤ length src
 Inside (Step.Selections s) src = startOf s + lenOf s ≤ length src
 Inside (Step.Fails f) src = Unit {0}
 
+-- the bytes bs stand at the place `at` of what was `old`, r the place behind them, and around them all is as it was
+pub record Puts (at : ℕ) (bs old : List ℕ) (r : ℕ) (last : List ℕ) : Type 0 where
+  pub behind : r ≡ at + length bs
+  pub holds : last ≡ take at old ++ (bs ++ drop (at + length bs) old)
+
 -- something was found
 abbrev pub Legal : Ans (List ℕ) → Type 0
 Legal a = a ≡ found (partOf a)

@@ -1,0 +1,109 @@
+-- What a step's tests say of what it spells. Assumes nothing.
+use Prim.Native.Nat.{ℕ, zero, suc, _+_, _-_, _^_, _<_, _≤_}
+use native.Mathlib.Omega.{arith}
+use mathlib.Core.Path.{_≡_, refl, sym, ap, _∙_}
+use mathlib.Core.Bool.{Bool, true, false}
+use mathlib.Core.List.{List, [], _∷_, _++_}
+use lib.ListN.{length, take, drop, length-append}
+use lib.Dec.{leb, ltb, eqb}
+use borrow.Author.Tests.{le-leb, lt-leb, lt-ltb, eq-eqb, ne-eqb}
+use Rattle.wire.specs.declared.fault.Refusal.{Refusal}
+use Rattle.wire.specs.declared.span.Span.{Span}
+use Rattle.wire.specs.declared.width.Width.{Width}
+use Rattle.wire.specs.Answers.{widthOf, startOf, lenOf}
+use Rattle.wire.specs.Bytes.{digits}
+use Rattle.wire.specs.Faults.{refusal, mismatch, tooLong, trailing}
+use Rattle.wire.specs.Layout.{lengthTo}
+use Rattle.wire.specs.Reading.{Ans, found, refused, next, when, list, read}
+use Rattle.wire.specs.Writing.{cut, spelt, whole, further, ahead, partOf, sizeOf}
+use Rattle.wire.proofs.Digits.{length-digits}
+use Rattle.wire.proofs.Steps.{found-refused, found-same}
+use Rattle.wire.proofs.Cuts.{sized-part, unsized}
+use Rattle.wire.proofs.Written.{cut-found}
+use Rattle.kinds.specs.Kinds.{pcrSelection}
+use Rattle.plans.specs.Steps.{spellStep}
+use Rattle.plans.specs.Walked.{after}
+use Rattle.plans.specs.declared.step.Step.{Step}
+
+pub number-good : (w : Width) (n : ℕ) (src : List ℕ) (at : ℕ) {k : ℕ} → k ≡ widthOf w → found (at + k) ≡ after at (spellStep (Step.Number w n) src at)
+unfolding spellStep
+number-good w n src at e = rw (e, length-digits (widthOf w) n)
+
+pub fails : (f : Refusal) (src : List ℕ) (at : ℕ) {g : Refusal} → g ≡ refusal (f .fault) at (f .value) → refused g ≡ after at (spellStep (Step.Fails f) src at)
+unfolding spellStep
+fails f src at e = ap refused e
+
+-- a span that has a size has so many bytes
+sized-length : (src : List ℕ) (start len at : ℕ) {n : ℕ} → found n ≡ sizeOf (cut src start len at) → (n ≡ len) × (length (partOf (cut src start len 0)) ≡ len)
+sized-length src start len at p =
+    let e = sized-part src start len at p in
+    let size = cut-found src start len at e .0 in
+    (found-same (p ∙ ap sizeOf e) ∙ size, size)
+
+module _ (s : Span) (src : List ℕ) (at : ℕ) where
+  abbrev bytes : List ℕ
+  bytes = partOf (cut src (startOf s) (lenOf s) 0)
+
+  -- ---- as they stand
+
+  pub plain-good : {n k : ℕ} → lenOf s ≡ n → found k ≡ sizeOf (cut src (startOf s) (lenOf s) at) → found (at + lenOf s) ≡ after at (spellStep (Step.Plain n s) src at)
+  unfolding spellStep
+  plain-good {n} e p = rw (eq-eqb (lenOf s) n e, sized-part src (startOf s) (lenOf s) at p, sized-length src (startOf s) (lenOf s) at p .1)
+
+  pub plain-wrong : {n : ℕ} → (lenOf s ≡ n → ⊥) → refused (mismatch at 0) ≡ after at (spellStep (Step.Plain n s) src at)
+  unfolding spellStep
+  plain-wrong {n} h = rw (ne-eqb (lenOf s) n h)
+
+  pub plain-out : {n : ℕ} {f : Refusal} → lenOf s ≡ n → refused f ≡ sizeOf (cut src (startOf s) (lenOf s) at) → refused f ≡ after at (spellStep (Step.Plain n s) src at)
+  unfolding spellStep
+  plain-out {n} e p = rw (eq-eqb (lenOf s) n e, unsized src (startOf s) (lenOf s) at p)
+
+  -- ---- buffers
+
+  pub buffer-good : {m n : ℕ} → found n ≡ sizeOf (cut src (startOf s) (lenOf s) at) → n ≤ m → m < 65536 → found (at + 2 + n) ≡ after at (spellStep (Step.Buffer m s) src at)
+  unfolding spellStep spelt
+  buffer-good {m} {n} p h f =
+      let (same, size) = sized-length src (startOf s) (lenOf s) at p in
+      let place : at + 2 + n ≡ at + length (digits 2 (lenOf s) ++ bytes) = omega (arith, length-append (digits 2 (lenOf s)) bytes, length-digits 2 (lenOf s)) in
+      rw (sized-part src (startOf s) (lenOf s) at p, le-leb (lenOf s) m (omega arith), lt-ltb (lenOf s) 65536 (omega arith)) (ap found place)
+
+  pub buffer-long : {m n : ℕ} → found n ≡ sizeOf (cut src (startOf s) (lenOf s) at) → m < n → refused (tooLong at n) ≡ after at (spellStep (Step.Buffer m s) src at)
+  unfolding spellStep spelt
+  buffer-long {m} {n} p h =
+      let same : n ≡ lenOf s = sized-length src (startOf s) (lenOf s) at p .0 in
+      rw (sized-part src (startOf s) (lenOf s) at p, lt-leb (lenOf s) m (omega arith)) (ap (λ k. refused (tooLong at k)) same)
+
+  pub buffer-out : (m : ℕ) {f : Refusal} → refused f ≡ sizeOf (cut src (startOf s) (lenOf s) at) → refused f ≡ after at (spellStep (Step.Buffer m s) src at)
+  unfolding spellStep
+  buffer-out m p = rw (unsized src (startOf s) (lenOf s) at p)
+
+  -- ---- selection lists
+
+  module _ {n : ℕ} {xs : List ℕ} (p : found n ≡ sizeOf (cut src (startOf s) (lenOf s) at)) (q : xs ≡ partOf (cut src (startOf s) (lenOf s) 0)) where
+    pub list-size : length xs ≡ n
+    list-size = ap length q ∙ sized-length src (startOf s) (lenOf s) at p .1 ∙ sym (sized-length src (startOf s) (lenOf s) at p .0)
+
+    pub list-good : {e : ℕ} → found e ≡ list 16 (λ s a. read pcrSelection s a) xs 0 → e ≡ n → found (at + e) ≡ after at (spellStep (Step.Selections s) src at)
+    unfolding spellStep whole
+    list-good {e} l same =
+        rw (sized-part src (startOf s) (lenOf s) at p, ← q, ← l, eq-eqb e (length xs) (same ∙ sym list-size)) (ap (λ k. found (at + k)) (same ∙ sym list-size))
+
+    pub list-trailing : {e : ℕ} → found e ≡ list 16 (λ s a. read pcrSelection s a) xs 0 → (e ≡ n → ⊥)
+        → refused (trailing (at + e) (n - e)) ≡ after at (spellStep (Step.Selections s) src at)
+    unfolding spellStep whole
+    list-trailing {e} l other =
+        rw (sized-part src (startOf s) (lenOf s) at p, ← q, ← l, ne-eqb e (length xs) (λ same. other (same ∙ list-size))) (ap (λ k. refused (trailing (at + e) (k - e))) (sym list-size))
+
+    pub list-no : {f : Refusal} → refused f ≡ list 16 (λ s a. read pcrSelection s a) xs 0 → refused (further at f) ≡ after at (spellStep (Step.Selections s) src at)
+    unfolding spellStep whole
+    list-no l = rw (sized-part src (startOf s) (lenOf s) at p, ← q, ← l)
+
+  pub list-out : {f : Refusal} → refused f ≡ sizeOf (cut src (startOf s) (lenOf s) at) → refused f ≡ after at (spellStep (Step.Selections s) src at)
+  unfolding spellStep
+  list-out p = rw (unsized src (startOf s) (lenOf s) at p)
+
+pub width-near : (w : Width) → widthOf w ≤ 8
+width-near Width.One = omega arith
+width-near Width.Two = omega arith
+width-near Width.Four = omega arith
+width-near Width.Eight = omega arith
