@@ -1,0 +1,116 @@
+// The steps of unions: where the arm is due, and the fields of the arm that is held.
+use crate::tpms::scheme_hash;
+use crate::tpms::scheme_xor;
+use kinds::codes::TpmAlgId;
+use plans::plan::Plan;
+use plans::plan::due_size;
+use plans::step::Step;
+use schemes::tpmu::TpmuAsymScheme;
+use schemes::tpmu::TpmuHa;
+use schemes::tpmu::TpmuKdfScheme;
+use schemes::tpmu::TpmuKeyedhashScheme;
+use schemes::tpmu::TpmuSigScheme;
+use schemes::tpmu::TpmuSymKeyBits;
+use schemes::tpmu::TpmuSymMode;
+ghost use mathlib.Core.List.{[]};
+ghost use Rattle.kinds.specs.Kinds.{haBy, asymBy, sigBy, keyedhashBy, kdfBy, keyBitsBy, modeBy};
+ghost use Rattle.schemes.specs.Parts.{digestParts, asymParts, sigParts, keyedhashParts, kdfParts, keyBitsParts, modeParts};
+ghost use Rattle.plans.specs.Steps.{Room, Adds};
+
+// ---- schemes
+
+// TPMU_HA
+pub fn ha(p: Plan, tag: TpmAlgId, x: TpmuHa) -> Plan
+    requires { ⌜ Room 2 p ⌝ }
+    ensures { λ r. ⌜ Adds (haBy (tag .0)) (digestParts x) [] 2 p r ⌝ }
+{
+    let chosen = tag.digest_arm();
+    let q = p.due(tag.0, chosen, x.matches_tag(tag));
+    match x {
+        TpmuHa::Null => q,
+        TpmuHa::Digest(span) => q.push(Step::Plain(due_size(chosen), span)),
+    }
+}
+
+// TPMU_ASYM_SCHEME
+pub fn asym_scheme(p: Plan, tag: TpmAlgId, x: TpmuAsymScheme) -> Plan
+    requires { ⌜ Room 2 p ⌝ }
+    ensures { λ r. ⌜ Adds (asymBy (tag .0)) (asymParts x) [] 2 p r ⌝ }
+{
+    let q = p.due(tag.0, tag.asym_arm(), x.matches_tag(tag));
+    match x {
+        TpmuAsymScheme::Hash(h) => scheme_hash(q, h),
+        TpmuAsymScheme::Null => q,
+    }
+}
+
+// TPMU_SIG_SCHEME
+pub fn sig_scheme(p: Plan, tag: TpmAlgId, x: TpmuSigScheme) -> Plan
+    requires { ⌜ Room 2 p ⌝ }
+    ensures { λ r. ⌜ Adds (sigBy (tag .0)) (sigParts x) [] 2 p r ⌝ }
+{
+    let q = p.due(tag.0, tag.sig_arm(), x.matches_tag(tag));
+    match x {
+        TpmuSigScheme::Hash(h) => scheme_hash(q, h),
+        TpmuSigScheme::Hmac(h) => scheme_hash(q, h),
+        TpmuSigScheme::Null => q,
+    }
+}
+
+// TPMU_SCHEME_KEYEDHASH
+pub fn keyedhash_scheme(p: Plan, tag: TpmAlgId, x: TpmuKeyedhashScheme) -> Plan
+    requires { ⌜ Room 3 p ⌝ }
+    ensures { λ r. ⌜ Adds (keyedhashBy (tag .0)) (keyedhashParts x) [] 3 p r ⌝ }
+{
+    let q = p.due(tag.0, tag.keyedhash_arm(), x.matches_tag(tag));
+    match x {
+        TpmuKeyedhashScheme::Hmac(h) => scheme_hash(q, h),
+        TpmuKeyedhashScheme::Xor(h) => scheme_xor(q, h),
+        TpmuKeyedhashScheme::Null => q,
+    }
+}
+
+// TPMU_KDF_SCHEME
+pub fn kdf_scheme(p: Plan, tag: TpmAlgId, x: TpmuKdfScheme) -> Plan
+    requires { ⌜ Room 2 p ⌝ }
+    ensures { λ r. ⌜ Adds (kdfBy (tag .0)) (kdfParts x) [] 2 p r ⌝ }
+{
+    let q = p.due(tag.0, tag.kdf_arm(), x.matches_tag(tag));
+    match x {
+        TpmuKdfScheme::Mgf1(h) => scheme_hash(q, h),
+        TpmuKdfScheme::Kdf1Sp800_56a(h) => scheme_hash(q, h),
+        TpmuKdfScheme::Kdf2(h) => scheme_hash(q, h),
+        TpmuKdfScheme::Kdf1Sp800_108(h) => scheme_hash(q, h),
+        TpmuKdfScheme::Null => q,
+    }
+}
+
+// TPMU_SYM_KEY_BITS
+pub fn sym_key_bits(p: Plan, tag: TpmAlgId, x: TpmuSymKeyBits) -> Plan
+    requires { ⌜ Room 2 p ⌝ }
+    ensures { λ r. ⌜ Adds (keyBitsBy (tag .0)) (keyBitsParts x) [] 2 p r ⌝ }
+{
+    let q = p.due(tag.0, tag.cipher_arm(), x.matches_tag(tag));
+    match x {
+        TpmuSymKeyBits::Aes(n) => q.uint16(n),
+        TpmuSymKeyBits::Sm4(n) => q.uint16(n),
+        TpmuSymKeyBits::Camellia(n) => q.uint16(n),
+        TpmuSymKeyBits::Xor(h) => q.algorithm(h),
+        TpmuSymKeyBits::Null => q,
+    }
+}
+
+// TPMU_SYM_MODE
+pub fn sym_mode(p: Plan, tag: TpmAlgId, x: TpmuSymMode) -> Plan
+    requires { ⌜ Room 2 p ⌝ }
+    ensures { λ r. ⌜ Adds (modeBy (tag .0)) (modeParts x) [] 2 p r ⌝ }
+{
+    let q = p.due(tag.0, tag.cipher_arm(), x.matches_tag(tag));
+    match x {
+        TpmuSymMode::Aes(m) => q.algorithm(m),
+        TpmuSymMode::Sm4(m) => q.algorithm(m),
+        TpmuSymMode::Camellia(m) => q.algorithm(m),
+        TpmuSymMode::Xor(m) => q.algorithm(m),
+        TpmuSymMode::Null => q,
+    }
+}
