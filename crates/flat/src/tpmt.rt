@@ -1,5 +1,10 @@
 // The steps of structures with a selector: its code, and the union that it chooses from.
 use crate::tpmu;
+use keys::tpmt::TpmtPublic;
+use keys::tpmt::TpmtPublicParms;
+use keys::tpmt::TpmtSensitive;
+use keys::tpmt::TpmtSignature;
+use kinds::limits;
 use plans::plan::Plan;
 use schemes::tpmt::TpmtEccScheme;
 use schemes::tpmt::TpmtHa;
@@ -10,8 +15,9 @@ use schemes::tpmt::TpmtRsaScheme;
 use schemes::tpmt::TpmtSigScheme;
 use schemes::tpmt::TpmtSymDef;
 ghost use mathlib.Core.List.{[]};
-ghost use Rattle.kinds.specs.Kinds.{ha, symDef, kdfScheme, keyedhashScheme, sigScheme, asymScheme};
+ghost use Rattle.kinds.specs.Kinds.{ha, symDef, kdfScheme, keyedhashScheme, sigScheme, asymScheme, publicParms, signature, publicArea, sensitive};
 ghost use Rattle.schemes.specs.Parts.{haParts, symDefParts, kdfSchemeParts, keyedhashSchemeParts, sigSchemeParts, rsaSchemeParts, eccSchemeParts, rsaDecryptParts};
+ghost use Rattle.keys.specs.Parts.{publicParmsParts, signatureParts, publicParts, sensitiveParts};
 ghost use Rattle.plans.specs.Steps.{Room, Adds};
 
 // ---- kinds 1 to 8
@@ -95,4 +101,54 @@ pub fn rsa_decrypt(p: Plan, x: TpmtRsaDecrypt) -> Plan
     let a = x.scheme;
     let d = x.details;
     tpmu::asym_scheme(p.algorithm(a), a, d)
+}
+
+// ---- kinds 9 to 12
+
+// Kind 9, TPMT_PUBLIC_PARMS
+pub fn public_parms(p: Plan, x: TpmtPublicParms) -> Plan
+    requires { ⌜ Room 14 p ⌝ }
+    ensures { λ r. ⌜ Adds publicParms (publicParmsParts x) [] 14 p r ⌝ }
+{
+    let a = x.object_type;
+    let y = x.parameters;
+    tpmu::public_parms(p.algorithm(a), a, y)
+}
+
+// Kind 10, TPMT_SIGNATURE
+pub fn signature(p: Plan, x: TpmtSignature) -> Plan
+    requires { ⌜ Room 5 p ⌝ }
+    ensures { λ r. ⌜ Adds signature (signatureParts x) [] 5 p r ⌝ }
+{
+    let a = x.sig_alg;
+    let s = x.signature;
+    tpmu::signature(p.algorithm(a), a, s)
+}
+
+// Kind 11, TPMT_PUBLIC: both arms by type
+pub fn public(p: Plan, x: TpmtPublic) -> Plan
+    requires { ⌜ Room 20 p ⌝ }
+    ensures { λ r. ⌜ Adds publicArea (publicParts x) [] 20 p r ⌝ }
+{
+    let a = x.object_type;
+    let n = x.name_alg;
+    let o = x.object_attributes;
+    let s = x.auth_policy;
+    let y = x.parameters;
+    let u = x.unique;
+    let q = p.algorithm(a).algorithm(n).uint32(o.0).buffer(limits::MAX_DIGEST_SIZE, s);
+    tpmu::public_id(tpmu::public_parms(q, a, y), a, u)
+}
+
+// Kind 12, TPMT_SENSITIVE
+pub fn sensitive(p: Plan, x: TpmtSensitive) -> Plan
+    requires { ⌜ Room 5 p ⌝ }
+    ensures { λ r. ⌜ Adds sensitive (sensitiveParts x) [] 5 p r ⌝ }
+{
+    let a = x.sensitive_type;
+    let v = x.auth_value;
+    let s = x.seed_value;
+    let y = x.sensitive;
+    let q = p.algorithm(a).buffer(limits::MAX_DIGEST_SIZE, v).buffer(limits::MAX_DIGEST_SIZE, s);
+    tpmu::sensitive_composite(q, a, y)
 }

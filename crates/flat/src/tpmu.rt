@@ -1,7 +1,20 @@
 // The steps of unions: where the arm is due, and the fields of the arm that is held.
+use crate::tpms::ecc_parms;
+use crate::tpms::ecc_point;
+use crate::tpms::keyedhash_parms;
+use crate::tpms::rsa_parms;
 use crate::tpms::scheme_hash;
 use crate::tpms::scheme_xor;
+use crate::tpms::signature_ecc;
+use crate::tpms::signature_rsa;
+use crate::tpms::symcipher_parms;
+use crate::tpmt;
+use keys::tpmu::TpmuPublicId;
+use keys::tpmu::TpmuPublicParms;
+use keys::tpmu::TpmuSensitiveComposite;
+use keys::tpmu::TpmuSignature;
 use kinds::codes::TpmAlgId;
+use kinds::limits;
 use plans::plan::Plan;
 use plans::plan::due_size;
 use plans::step::Step;
@@ -13,8 +26,9 @@ use schemes::tpmu::TpmuSigScheme;
 use schemes::tpmu::TpmuSymKeyBits;
 use schemes::tpmu::TpmuSymMode;
 ghost use mathlib.Core.List.{[]};
-ghost use Rattle.kinds.specs.Kinds.{haBy, asymBy, sigBy, keyedhashBy, kdfBy, keyBitsBy, modeBy};
+ghost use Rattle.kinds.specs.Kinds.{haBy, asymBy, sigBy, keyedhashBy, kdfBy, keyBitsBy, modeBy, parmsBy, uniqueBy, sensitiveBy, signatureBy};
 ghost use Rattle.schemes.specs.Parts.{digestParts, asymParts, sigParts, keyedhashParts, kdfParts, keyBitsParts, modeParts};
+ghost use Rattle.keys.specs.Parts.{parmsParts, uniqueParts, compositeParts, sigUnionParts};
 ghost use Rattle.plans.specs.Steps.{Room, Adds};
 
 // ---- schemes
@@ -112,5 +126,69 @@ pub fn sym_mode(p: Plan, tag: TpmAlgId, x: TpmuSymMode) -> Plan
         TpmuSymMode::Camellia(m) => q.algorithm(m),
         TpmuSymMode::Xor(m) => q.algorithm(m),
         TpmuSymMode::Null => q,
+    }
+}
+
+// ---- keys
+
+// TPMU_PUBLIC_PARMS
+pub fn public_parms(p: Plan, tag: TpmAlgId, x: TpmuPublicParms) -> Plan
+    requires { ⌜ Room 13 p ⌝ }
+    ensures { λ r. ⌜ Adds (parmsBy (tag .0)) (parmsParts x) [] 13 p r ⌝ }
+{
+    let q = p.due(tag.0, tag.type_arm(), x.matches_tag(tag));
+    match x {
+        TpmuPublicParms::KeyedHash(y) => keyedhash_parms(q, y),
+        TpmuPublicParms::SymCipher(y) => symcipher_parms(q, y),
+        TpmuPublicParms::Rsa(y) => rsa_parms(q, y),
+        TpmuPublicParms::Ecc(y) => ecc_parms(q, y),
+        TpmuPublicParms::Null => q,
+    }
+}
+
+// TPMU_PUBLIC_ID
+pub fn public_id(p: Plan, tag: TpmAlgId, x: TpmuPublicId) -> Plan
+    requires { ⌜ Room 3 p ⌝ }
+    ensures { λ r. ⌜ Adds (uniqueBy (tag .0)) (uniqueParts x) [] 3 p r ⌝ }
+{
+    let q = p.due(tag.0, tag.type_arm(), x.matches_tag(tag));
+    match x {
+        TpmuPublicId::KeyedHash(s) => q.buffer(limits::MAX_DIGEST_SIZE, s),
+        TpmuPublicId::SymCipher(s) => q.buffer(limits::MAX_SYM_KEY_BYTES, s),
+        TpmuPublicId::Rsa(s) => q.buffer(limits::MAX_RSA_KEY_BYTES, s),
+        TpmuPublicId::Ecc(y) => ecc_point(q, y),
+        TpmuPublicId::Null => q,
+    }
+}
+
+// TPMU_SENSITIVE_COMPOSITE
+pub fn sensitive_composite(p: Plan, tag: TpmAlgId, x: TpmuSensitiveComposite) -> Plan
+    requires { ⌜ Room 2 p ⌝ }
+    ensures { λ r. ⌜ Adds (sensitiveBy (tag .0)) (compositeParts x) [] 2 p r ⌝ }
+{
+    let q = p.due(tag.0, tag.sensitive_arm(), x.matches_tag(tag));
+    match x {
+        TpmuSensitiveComposite::Rsa(s) => q.buffer(limits::MAX_PRIVATE_KEY_RSA, s),
+        TpmuSensitiveComposite::Ecc(s) => q.buffer(limits::MAX_ECC_KEY_BYTES, s),
+        TpmuSensitiveComposite::Bits(s) => q.buffer(limits::MAX_SENSITIVE_DATA, s),
+        TpmuSensitiveComposite::Sym(s) => q.buffer(limits::MAX_SYM_KEY_BYTES, s),
+    }
+}
+
+// TPMU_SIGNATURE
+pub fn signature(p: Plan, tag: TpmAlgId, x: TpmuSignature) -> Plan
+    requires { ⌜ Room 4 p ⌝ }
+    ensures { λ r. ⌜ Adds (signatureBy (tag .0)) (sigUnionParts x) [] 4 p r ⌝ }
+{
+    let q = p.due(tag.0, tag.signature_arm(), x.matches_tag(tag));
+    match x {
+        TpmuSignature::Rsassa(s) => signature_rsa(q, s),
+        TpmuSignature::Rsapss(s) => signature_rsa(q, s),
+        TpmuSignature::Ecdsa(s) => signature_ecc(q, s),
+        TpmuSignature::Ecdaa(s) => signature_ecc(q, s),
+        TpmuSignature::Sm2(s) => signature_ecc(q, s),
+        TpmuSignature::Ecschnorr(s) => signature_ecc(q, s),
+        TpmuSignature::Hmac(h) => tpmt::ha(q, h),
+        TpmuSignature::Null => q,
     }
 }

@@ -1,7 +1,6 @@
 -- The steps are the layout's fields. Assumes nothing.
 use borrow.Author.Needs.{needs}
 use Rattle.wire.specs.declared.width.Width.the-variants.{Two}
-use Rattle.wire.specs.Layout.{one}
 use Rattle.kinds.specs.Codes.{alg}
 use Rattle.kinds.specs.Kinds.{schemeXor}
 use Rattle.plans.proofs.Laws.{adds-number, adds-last-number}
@@ -16,7 +15,7 @@ algorithm-requires-2 c κs = search needs
 
 returns : tie.Need-returns
 unfolding schemeXor
-returns c = adds-number Two alg _ (λ hashAlg. one 2 alg) (c .before .algorithm .ensures) (adds-last-number Two alg _ (c .algorithm2 .ensures))
+returns c = adds-number Two alg _ _ (c .before .algorithm .ensures) (adds-last-number Two alg _ (c .algorithm2 .ensures))
 
 pub scheme-xor-spec : {M : Type 1} → statement M
 scheme-xor-spec = tie.close (tie.spec algorithm-requires algorithm-requires-2 returns)

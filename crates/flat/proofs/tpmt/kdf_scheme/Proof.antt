@@ -2,7 +2,7 @@
 use borrow.Author.Needs.{needs}
 use Rattle.wire.specs.declared.width.Width.the-variants.{Two}
 use Rattle.kinds.specs.Codes.{alg}
-use Rattle.kinds.specs.Kinds.{kdfBy, kdfScheme}
+use Rattle.kinds.specs.Kinds.{kdfScheme}
 use Rattle.plans.proofs.Laws.{adds-number}
 use Rattle.flat.proofs.tpmt.kdf_scheme.Statement.{statement}
 use Rattle.flat.proofs.tpmt.kdf_scheme.Tie as tie
@@ -15,7 +15,7 @@ kdf-scheme-requires c κs = search needs
 
 returns : tie.Need-returns
 unfolding kdfScheme
-returns c = adds-number Two alg _ kdfBy (c .before .algorithm .ensures) (c .kdf-scheme .ensures)
+returns c = adds-number Two alg _ _ (c .before .algorithm .ensures) (c .kdf-scheme .ensures)
 
 pub kdf-scheme-spec : {M : Type 1} → statement M
 kdf-scheme-spec = tie.close (tie.spec algorithm-requires kdf-scheme-requires returns)

@@ -2,7 +2,7 @@
 use borrow.Author.Needs.{needs}
 use Rattle.wire.specs.declared.width.Width.the-variants.{Two}
 use Rattle.kinds.specs.Codes.{alg}
-use Rattle.kinds.specs.Kinds.{keyedhashBy, keyedhashScheme}
+use Rattle.kinds.specs.Kinds.{keyedhashScheme}
 use Rattle.plans.proofs.Laws.{adds-number}
 use Rattle.flat.proofs.tpmt.keyedhash_scheme.Statement.{statement}
 use Rattle.flat.proofs.tpmt.keyedhash_scheme.Tie as tie
@@ -15,7 +15,7 @@ keyedhash-scheme-requires c κs = search needs
 
 returns : tie.Need-returns
 unfolding keyedhashScheme
-returns c = adds-number Two alg _ keyedhashBy (c .before .algorithm .ensures) (c .keyedhash-scheme .ensures)
+returns c = adds-number Two alg _ _ (c .before .algorithm .ensures) (c .keyedhash-scheme .ensures)
 
 pub keyedhash-scheme-spec : {M : Type 1} → statement M
 keyedhash-scheme-spec = tie.close (tie.spec algorithm-requires keyedhash-scheme-requires returns)

@@ -2,7 +2,7 @@
 use borrow.Author.Needs.{needs}
 use Rattle.wire.specs.declared.width.Width.the-variants.{Two}
 use Rattle.kinds.specs.Codes.{alg}
-use Rattle.kinds.specs.Kinds.{sigBy, sigScheme}
+use Rattle.kinds.specs.Kinds.{sigScheme}
 use Rattle.plans.proofs.Laws.{adds-number}
 use Rattle.flat.proofs.tpmt.sig_scheme.Statement.{statement}
 use Rattle.flat.proofs.tpmt.sig_scheme.Tie as tie
@@ -15,7 +15,7 @@ sig-scheme-requires c κs = search needs
 
 returns : tie.Need-returns
 unfolding sigScheme
-returns c = adds-number Two alg _ sigBy (c .before .algorithm .ensures) (c .sig-scheme .ensures)
+returns c = adds-number Two alg _ _ (c .before .algorithm .ensures) (c .sig-scheme .ensures)
 
 pub sig-scheme-spec : {M : Type 1} → statement M
 sig-scheme-spec = tie.close (tie.spec algorithm-requires sig-scheme-requires returns)

@@ -1,9 +1,8 @@
 -- The steps are the layout's fields. Assumes nothing.
 use borrow.Author.Needs.{needs}
 use Rattle.wire.specs.declared.width.Width.the-variants.{Two}
-use Rattle.wire.specs.Layout.{_then_}
 use Rattle.kinds.specs.Codes.{alg}
-use Rattle.kinds.specs.Kinds.{keyBitsBy, modeBy, symDef}
+use Rattle.kinds.specs.Kinds.{symDef}
 use Rattle.plans.proofs.Laws.{adds-then, adds-number}
 use Rattle.flat.proofs.tpmt.sym_def.Statement.{statement}
 use Rattle.flat.proofs.tpmt.sym_def.Tie as tie
@@ -19,7 +18,7 @@ sym-mode-requires c κs = search needs
 
 returns : tie.Need-returns
 unfolding symDef
-returns c = adds-number Two alg _ (λ algorithm. keyBitsBy algorithm then modeBy algorithm) (c .before .before .algorithm .ensures) (adds-then (c .before .sym-key-bits .ensures) (c .sym-mode .ensures))
+returns c = adds-number Two alg _ _ (c .before .before .algorithm .ensures) (adds-then (c .before .sym-key-bits .ensures) (c .sym-mode .ensures))
 
 pub sym-def-spec : {M : Type 1} → statement M
 sym-def-spec =

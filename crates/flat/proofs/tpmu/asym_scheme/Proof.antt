@@ -29,11 +29,15 @@ enum-told c = search needs
 
 returns : tie.Need-returns
 unfolding asymBy
-returns c = holds _ (c .before .before .before .before .before .before .asym-arm .ensures) (c .before .before .before .before .before .matches-tag .ensures) ((c .before .before .before .before .due .ensures) .0) asymBody (ap asymParts (c .before .before .x .given .1)) refl (c .scheme-hash .ensures)
+returns c =
+    holds _ (c .before .before .before .before .before .before .asym-arm .ensures) (c .before .before .before .before .before .matches-tag .ensures)
+    (c .before .before .before .before .due .ensures .0) asymBody (ap asymParts (c .before .before .x .given .1)) refl (c .scheme-hash .ensures)
 
 returns-2 : tie.Need-returns-2
 unfolding asymBy
-returns-2 c = adds-more (omega arith) (holds-none _ (c .before .before .before .before .asym-arm .ensures) (c .before .before .before .matches-tag .ensures) ((c .before .before .due .ensures) .0) asymBody (ap asymParts (c .enum-told .given .1)) refl)
+returns-2 c =
+    adds-more (omega arith) (holds-none _ (c .before .before .before .before .asym-arm .ensures) (c .before .before .before .matches-tag .ensures)
+    (c .before .before .due .ensures .0) asymBody (ap asymParts (c .enum-told .given .1)) refl)
 
 pub asym-scheme-spec : {M : Type 1} → statement M
 asym-scheme-spec =

@@ -47,23 +47,33 @@ enum-told c = search needs
 
 returns : tie.Need-returns
 unfolding kdfBy
-returns c = holds _ (c .before .before .before .before .before .before .kdf-arm .ensures) (c .before .before .before .before .before .matches-tag .ensures) ((c .before .before .before .before .due .ensures) .0) kdfBody (ap kdfParts (c .before .before .x .given .1)) refl (c .scheme-hash .ensures)
+returns c =
+    holds _ (c .before .before .before .before .before .before .kdf-arm .ensures) (c .before .before .before .before .before .matches-tag .ensures)
+    (c .before .before .before .before .due .ensures .0) kdfBody (ap kdfParts (c .before .before .x .given .1)) refl (c .scheme-hash .ensures)
 
 returns-2 : tie.Need-returns-2
 unfolding kdfBy
-returns-2 c = holds _ (c .before .before .before .before .before .before .kdf-arm .ensures) (c .before .before .before .before .before .matches-tag .ensures) ((c .before .before .before .before .due .ensures) .0) kdfBody (ap kdfParts (c .before .before .x2 .given .1)) refl (c .scheme-hash2 .ensures)
+returns-2 c =
+    holds _ (c .before .before .before .before .before .before .kdf-arm .ensures) (c .before .before .before .before .before .matches-tag .ensures)
+    (c .before .before .before .before .due .ensures .0) kdfBody (ap kdfParts (c .before .before .x2 .given .1)) refl (c .scheme-hash2 .ensures)
 
 returns-3 : tie.Need-returns-3
 unfolding kdfBy
-returns-3 c = holds _ (c .before .before .before .before .before .before .kdf-arm .ensures) (c .before .before .before .before .before .matches-tag .ensures) ((c .before .before .before .before .due .ensures) .0) kdfBody (ap kdfParts (c .before .before .x3 .given .1)) refl (c .scheme-hash3 .ensures)
+returns-3 c =
+    holds _ (c .before .before .before .before .before .before .kdf-arm .ensures) (c .before .before .before .before .before .matches-tag .ensures)
+    (c .before .before .before .before .due .ensures .0) kdfBody (ap kdfParts (c .before .before .x3 .given .1)) refl (c .scheme-hash3 .ensures)
 
 returns-4 : tie.Need-returns-4
 unfolding kdfBy
-returns-4 c = holds _ (c .before .before .before .before .before .before .kdf-arm .ensures) (c .before .before .before .before .before .matches-tag .ensures) ((c .before .before .before .before .due .ensures) .0) kdfBody (ap kdfParts (c .before .before .x4 .given .1)) refl (c .scheme-hash4 .ensures)
+returns-4 c =
+    holds _ (c .before .before .before .before .before .before .kdf-arm .ensures) (c .before .before .before .before .before .matches-tag .ensures)
+    (c .before .before .before .before .due .ensures .0) kdfBody (ap kdfParts (c .before .before .x4 .given .1)) refl (c .scheme-hash4 .ensures)
 
 returns-5 : tie.Need-returns-5
 unfolding kdfBy
-returns-5 c = adds-more (omega arith) (holds-none _ (c .before .before .before .before .kdf-arm .ensures) (c .before .before .before .matches-tag .ensures) ((c .before .before .due .ensures) .0) kdfBody (ap kdfParts (c .enum-told .given .1)) refl)
+returns-5 c =
+    adds-more (omega arith) (holds-none _ (c .before .before .before .before .kdf-arm .ensures) (c .before .before .before .matches-tag .ensures)
+    (c .before .before .due .ensures .0) kdfBody (ap kdfParts (c .enum-told .given .1)) refl)
 
 pub kdf-scheme-spec : {M : Type 1} → statement M
 kdf-scheme-spec =

@@ -35,15 +35,21 @@ enum-told c = search needs
 
 returns : tie.Need-returns
 unfolding sigBy
-returns c = holds _ (c .before .before .before .before .before .before .sig-arm .ensures) (c .before .before .before .before .before .matches-tag .ensures) ((c .before .before .before .before .due .ensures) .0) sigBody (ap sigParts (c .before .before .x .given .1)) refl (c .scheme-hash .ensures)
+returns c =
+    holds _ (c .before .before .before .before .before .before .sig-arm .ensures) (c .before .before .before .before .before .matches-tag .ensures)
+    (c .before .before .before .before .due .ensures .0) sigBody (ap sigParts (c .before .before .x .given .1)) refl (c .scheme-hash .ensures)
 
 returns-2 : tie.Need-returns-2
 unfolding sigBy
-returns-2 c = holds _ (c .before .before .before .before .before .before .sig-arm .ensures) (c .before .before .before .before .before .matches-tag .ensures) ((c .before .before .before .before .due .ensures) .0) sigBody (ap sigParts (c .before .before .x2 .given .1)) refl (c .scheme-hash2 .ensures)
+returns-2 c =
+    holds _ (c .before .before .before .before .before .before .sig-arm .ensures) (c .before .before .before .before .before .matches-tag .ensures)
+    (c .before .before .before .before .due .ensures .0) sigBody (ap sigParts (c .before .before .x2 .given .1)) refl (c .scheme-hash2 .ensures)
 
 returns-3 : tie.Need-returns-3
 unfolding sigBy
-returns-3 c = adds-more (omega arith) (holds-none _ (c .before .before .before .before .sig-arm .ensures) (c .before .before .before .matches-tag .ensures) ((c .before .before .due .ensures) .0) sigBody (ap sigParts (c .enum-told .given .1)) refl)
+returns-3 c =
+    adds-more (omega arith) (holds-none _ (c .before .before .before .before .sig-arm .ensures) (c .before .before .before .matches-tag .ensures)
+    (c .before .before .due .ensures .0) sigBody (ap sigParts (c .enum-told .given .1)) refl)
 
 pub sig-scheme-spec : {M : Type 1} → statement M
 sig-scheme-spec =
