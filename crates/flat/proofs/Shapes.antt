@@ -25,6 +25,10 @@ module _ {p q : Plan} {c c′ : Choice} {b : Bool} {us : List Part} (v : ℕ) (s
   pub holds : {l : Layout} {h : ℕ} {ps ls : List Part} {j : ℕ} {r : Plan} (body : ℕ → Layout) → us ≡ tag h ∷ ps → body h ≡ l → Adds l ps ls j q r → Adds (union c′ body v) us ls (suc j) p r
   holds {h = h} body e is a = rw e (adds-arm v body h same (told-by e) push is a)
 
+  -- with fields and a list
+  pub holds-lists : {l : Layout} {h : ℕ} {ps ls ms : List Part} {j : ℕ} {r : Plan} (body : ℕ → Layout) → us ≡ tag h ∷ ps → ls ≡ ms → body h ≡ l → Adds l ps ms j q r → Adds (union c′ body v) us ls (suc j) p r
+  holds-lists body e lists is a = rw lists (holds body e is a)
+
   -- without any
   pub holds-none : {h : ℕ} (body : ℕ → Layout) → us ≡ tag h ∷ [] → body h ≡ stop → Adds (union c′ body v) us [] 1 p q
   holds-none {h} body e is = rw e (adds-empty v body h same (told-by e) push is)

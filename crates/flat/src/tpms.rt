@@ -1,4 +1,15 @@
 // The steps of structures.
+use attest::tpms::TpmsCertifyInfo;
+use attest::tpms::TpmsClockInfo;
+use attest::tpms::TpmsCommandAuditInfo;
+use attest::tpms::TpmsCreationInfo;
+use attest::tpms::TpmsNvCertifyInfo;
+use attest::tpms::TpmsNvDigestCertifyInfo;
+use attest::tpms::TpmsQuoteInfo;
+use attest::tpms::TpmsSessionAuditInfo;
+use attest::tpms::TpmsTimeAttestInfo;
+use attest::tpms::TpmsTimeInfo;
+use crate::list::pcr_selection;
 use crate::tpmt;
 use keys::tpms::TpmsEccParms;
 use keys::tpms::TpmsEccPoint;
@@ -12,9 +23,10 @@ use plans::plan::Plan;
 use schemes::tpms::TpmsSchemeHash;
 use schemes::tpms::TpmsSchemeXor;
 ghost use mathlib.Core.List.{[]};
-ghost use Rattle.kinds.specs.Kinds.{schemeHash, schemeXor, keyedhashScheme, symDef, rsaParms, eccParms, eccPoint, signatureRsa, signatureEcc};
-ghost use Rattle.schemes.specs.Parts.{schemeHashParts, schemeXorParts};
+ghost use Rattle.kinds.specs.Kinds.{schemeHash, schemeXor, keyedhashScheme, symDef, rsaParms, eccParms, eccPoint, signatureRsa, signatureEcc, clockInfo, timeInfo, certifyInfo, creationInfo, quoteInfo, commandAuditInfo, sessionAuditInfo, timeAttestInfo, nvCertifyInfo, nvDigestCertifyInfo};
+ghost use Rattle.schemes.specs.Parts.{schemeHashParts, schemeXorParts, pcrSelectionsParts};
 ghost use Rattle.keys.specs.Parts.{keyedhashParmsParts, symcipherParmsParts, rsaParmsParts, eccParmsParts, eccPointParts, signatureRsaParts, signatureEccParts};
+ghost use Rattle.attest.specs.Parts.{clockInfoParts, timeInfoParts, certifyInfoParts, creationInfoParts, quoteInfoParts, commandAuditInfoParts, sessionAuditInfoParts, timeAttestInfoParts, nvCertifyInfoParts, nvDigestCertifyInfoParts};
 ghost use Rattle.plans.specs.Steps.{Room, Adds};
 
 // ---- what schemes hold
@@ -103,4 +115,98 @@ pub fn signature_ecc(p: Plan, x: TpmsSignatureEcc) -> Plan
     p.algorithm(x.hash)
         .buffer(limits::MAX_ECC_KEY_BYTES, x.signature_r)
         .buffer(limits::MAX_ECC_KEY_BYTES, x.signature_s)
+}
+
+// ---- attestations
+
+// TPMS_CLOCK_INFO
+pub fn clock_info(p: Plan, x: TpmsClockInfo) -> Plan
+    requires { ⌜ Room 4 p ⌝ }
+    ensures { λ r. ⌜ Adds clockInfo (clockInfoParts x) [] 4 p r ⌝ }
+{
+    p.uint64(x.clock).uint32(x.reset_count).uint32(x.restart_count).yes_no(x.safe)
+}
+
+// TPMS_TIME_INFO
+pub fn time_info(p: Plan, x: TpmsTimeInfo) -> Plan
+    requires { ⌜ Room 5 p ⌝ }
+    ensures { λ r. ⌜ Adds timeInfo (timeInfoParts x) [] 5 p r ⌝ }
+{
+    let t = x.time;
+    let c = x.clock_info;
+    clock_info(p.uint64(t), c)
+}
+
+// TPMS_CERTIFY_INFO
+pub fn certify_info(p: Plan, x: TpmsCertifyInfo) -> Plan
+    requires { ⌜ Room 2 p ⌝ }
+    ensures { λ r. ⌜ Adds certifyInfo (certifyInfoParts x) [] 2 p r ⌝ }
+{
+    p.buffer(limits::MAX_NAME_SIZE, x.name).buffer(limits::MAX_NAME_SIZE, x.qualified_name)
+}
+
+// TPMS_CREATION_INFO
+pub fn creation_info(p: Plan, x: TpmsCreationInfo) -> Plan
+    requires { ⌜ Room 2 p ⌝ }
+    ensures { λ r. ⌜ Adds creationInfo (creationInfoParts x) [] 2 p r ⌝ }
+{
+    p.buffer(limits::MAX_NAME_SIZE, x.object_name)
+        .buffer(limits::MAX_DIGEST_SIZE, x.creation_hash)
+}
+
+// TPMS_QUOTE_INFO
+pub fn quote_info(p: Plan, x: TpmsQuoteInfo) -> Plan
+    requires { ⌜ Room 2 p ⌝ }
+    ensures { λ r. ⌜ Adds quoteInfo (quoteInfoParts x) (pcrSelectionsParts (x .«pcr_select»)) 2 p r ⌝ }
+{
+    let l = x.pcr_select;
+    let d = x.pcr_digest;
+    pcr_selection(p, l).buffer(limits::MAX_DIGEST_SIZE, d)
+}
+
+// TPMS_COMMAND_AUDIT_INFO
+pub fn command_audit_info(p: Plan, x: TpmsCommandAuditInfo) -> Plan
+    requires { ⌜ Room 4 p ⌝ }
+    ensures { λ r. ⌜ Adds commandAuditInfo (commandAuditInfoParts x) [] 4 p r ⌝ }
+{
+    p.uint64(x.audit_counter)
+        .algorithm(x.digest_alg)
+        .buffer(limits::MAX_DIGEST_SIZE, x.audit_digest)
+        .buffer(limits::MAX_DIGEST_SIZE, x.command_digest)
+}
+
+// TPMS_SESSION_AUDIT_INFO
+pub fn session_audit_info(p: Plan, x: TpmsSessionAuditInfo) -> Plan
+    requires { ⌜ Room 2 p ⌝ }
+    ensures { λ r. ⌜ Adds sessionAuditInfo (sessionAuditInfoParts x) [] 2 p r ⌝ }
+{
+    p.yes_no(x.exclusive_session).buffer(limits::MAX_DIGEST_SIZE, x.session_digest)
+}
+
+// TPMS_TIME_ATTEST_INFO
+pub fn time_attest_info(p: Plan, x: TpmsTimeAttestInfo) -> Plan
+    requires { ⌜ Room 6 p ⌝ }
+    ensures { λ r. ⌜ Adds timeAttestInfo (timeAttestInfoParts x) [] 6 p r ⌝ }
+{
+    let t = x.time;
+    let v = x.firmware_version;
+    time_info(p, t).uint64(v)
+}
+
+// TPMS_NV_CERTIFY_INFO
+pub fn nv_certify_info(p: Plan, x: TpmsNvCertifyInfo) -> Plan
+    requires { ⌜ Room 3 p ⌝ }
+    ensures { λ r. ⌜ Adds nvCertifyInfo (nvCertifyInfoParts x) [] 3 p r ⌝ }
+{
+    p.buffer(limits::MAX_NAME_SIZE, x.index_name)
+        .uint16(x.offset)
+        .buffer(limits::MAX_NV_BUFFER_SIZE, x.nv_contents)
+}
+
+// TPMS_NV_DIGEST_CERTIFY_INFO
+pub fn nv_digest_certify_info(p: Plan, x: TpmsNvDigestCertifyInfo) -> Plan
+    requires { ⌜ Room 2 p ⌝ }
+    ensures { λ r. ⌜ Adds nvDigestCertifyInfo (nvDigestCertifyInfoParts x) [] 2 p r ⌝ }
+{
+    p.buffer(limits::MAX_NAME_SIZE, x.index_name).buffer(limits::MAX_DIGEST_SIZE, x.nv_digest)
 }

@@ -1,19 +1,29 @@
 // The steps of unions: where the arm is due, and the fields of the arm that is held.
+use attest::tpmu::TpmuAttest;
+use crate::tpms::certify_info;
+use crate::tpms::command_audit_info;
+use crate::tpms::creation_info;
 use crate::tpms::ecc_parms;
 use crate::tpms::ecc_point;
 use crate::tpms::keyedhash_parms;
+use crate::tpms::nv_certify_info;
+use crate::tpms::nv_digest_certify_info;
+use crate::tpms::quote_info;
 use crate::tpms::rsa_parms;
 use crate::tpms::scheme_hash;
 use crate::tpms::scheme_xor;
+use crate::tpms::session_audit_info;
 use crate::tpms::signature_ecc;
 use crate::tpms::signature_rsa;
 use crate::tpms::symcipher_parms;
+use crate::tpms::time_attest_info;
 use crate::tpmt;
 use keys::tpmu::TpmuPublicId;
 use keys::tpmu::TpmuPublicParms;
 use keys::tpmu::TpmuSensitiveComposite;
 use keys::tpmu::TpmuSignature;
 use kinds::codes::TpmAlgId;
+use kinds::codes::TpmSt;
 use kinds::limits;
 use plans::plan::Plan;
 use plans::plan::due_size;
@@ -26,10 +36,12 @@ use schemes::tpmu::TpmuSigScheme;
 use schemes::tpmu::TpmuSymKeyBits;
 use schemes::tpmu::TpmuSymMode;
 ghost use mathlib.Core.List.{[]};
-ghost use Rattle.kinds.specs.Kinds.{haBy, asymBy, sigBy, keyedhashBy, kdfBy, keyBitsBy, modeBy, parmsBy, uniqueBy, sensitiveBy, signatureBy};
+ghost use Rattle.kinds.specs.Kinds.{haBy, asymBy, sigBy, keyedhashBy, kdfBy, keyBitsBy, modeBy, parmsBy, uniqueBy, sensitiveBy, signatureBy, attestBy};
 ghost use Rattle.schemes.specs.Parts.{digestParts, asymParts, sigParts, keyedhashParts, kdfParts, keyBitsParts, modeParts};
 ghost use Rattle.keys.specs.Parts.{parmsParts, uniqueParts, compositeParts, sigUnionParts};
+ghost use Rattle.attest.specs.Parts.{attestedParts};
 ghost use Rattle.plans.specs.Steps.{Room, Adds};
+ghost use Rattle.flat.specs.Lists.{attestedLists};
 
 // ---- schemes
 
@@ -190,5 +202,25 @@ pub fn signature(p: Plan, tag: TpmAlgId, x: TpmuSignature) -> Plan
         TpmuSignature::Ecschnorr(s) => signature_ecc(q, s),
         TpmuSignature::Hmac(h) => tpmt::ha(q, h),
         TpmuSignature::Null => q,
+    }
+}
+
+// ---- attestations
+
+// TPMU_ATTEST
+pub fn attest(p: Plan, tag: TpmSt, x: TpmuAttest) -> Plan
+    requires { ⌜ Room 7 p ⌝ }
+    ensures { λ r. ⌜ Adds (attestBy (tag .0)) (attestedParts x) (attestedLists x) 7 p r ⌝ }
+{
+    let q = p.due(tag.0, tag.attest_arm(), x.matches_tag(tag));
+    match x {
+        TpmuAttest::Certify(i) => certify_info(q, i),
+        TpmuAttest::Creation(i) => creation_info(q, i),
+        TpmuAttest::Quote(i) => quote_info(q, i),
+        TpmuAttest::CommandAudit(i) => command_audit_info(q, i),
+        TpmuAttest::SessionAudit(i) => session_audit_info(q, i),
+        TpmuAttest::Time(i) => time_attest_info(q, i),
+        TpmuAttest::Nv(i) => nv_certify_info(q, i),
+        TpmuAttest::NvDigest(i) => nv_digest_certify_info(q, i),
     }
 }
