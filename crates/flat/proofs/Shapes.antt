@@ -22,11 +22,13 @@ module _ {p q : Plan} {c c′ : Choice} {b : Bool} {us : List Part} (v : ℕ) (s
   told-by e = told ∙ ap (λ xs. isArm c′ (held xs)) e
 
   -- with fields
-  pub holds : {l : Layout} {h : ℕ} {ps ls : List Part} {j : ℕ} {r : Plan} (body : ℕ → Layout) → us ≡ tag h ∷ ps → body h ≡ l → Adds l ps ls j q r → Adds (union c′ body v) us ls (suc j) p r
+  pub holds : {l : Layout} {h : ℕ} {ps ls : List Part} {j : ℕ} {r : Plan} (body : ℕ → Layout) → us ≡ tag h ∷ ps → body h ≡ l → Adds l ps ls j q r
+      → Adds (union c′ body v) us ls (suc j) p r
   holds {h = h} body e is a = rw e (adds-arm v body h same (told-by e) push is a)
 
   -- with fields and a list
-  pub holds-lists : {l : Layout} {h : ℕ} {ps ls ms : List Part} {j : ℕ} {r : Plan} (body : ℕ → Layout) → us ≡ tag h ∷ ps → ls ≡ ms → body h ≡ l → Adds l ps ms j q r → Adds (union c′ body v) us ls (suc j) p r
+  pub holds-lists : {l : Layout} {h : ℕ} {ps ls ms : List Part} {j : ℕ} {r : Plan} (body : ℕ → Layout) → us ≡ tag h ∷ ps → ls ≡ ms → body h ≡ l → Adds l ps ms j q r
+      → Adds (union c′ body v) us ls (suc j) p r
   holds-lists body e lists is a = rw lists (holds body e is a)
 
   -- without any
@@ -34,5 +36,6 @@ module _ {p q : Plan} {c c′ : Choice} {b : Bool} {us : List Part} (v : ℕ) (s
   holds-none {h} body e is = rw e (adds-empty v body h same (told-by e) push is)
 
   -- a digest
-  pub holds-digest : {n : ℕ} {r : Plan} (s : Span) → us ≡ tag (suc (lenOf s)) ∷ spanPart s ∷ [] → n ≡ dueSize c → Pushed q (Step.Plain n s ∷ []) r → Adds (union c′ haBody v) us [] 2 p r
+  pub holds-digest : {n : ℕ} {r : Plan} (s : Span) → us ≡ tag (suc (lenOf s)) ∷ spanPart s ∷ [] → n ≡ dueSize c → Pushed q (Step.Plain n s ∷ []) r
+      → Adds (union c′ haBody v) us [] 2 p r
   holds-digest s e size more = rw e (adds-digest v s same (told-by e) push size more)

@@ -1,7 +1,7 @@
 // The steps of an attestation.
-use attest::attestation::TpmsAttest;
 use crate::tpms::clock_info;
 use crate::tpmu;
+use attest::attestation::TpmsAttest;
 use kinds::limits;
 use plans::plan::Plan;
 ghost use Rattle.kinds.specs.Kinds.{attest};

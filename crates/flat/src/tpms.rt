@@ -1,4 +1,6 @@
 // The steps of structures.
+use crate::list::pcr_selection;
+use crate::tpmt;
 use attest::tpms::TpmsCertifyInfo;
 use attest::tpms::TpmsClockInfo;
 use attest::tpms::TpmsCommandAuditInfo;
@@ -9,8 +11,6 @@ use attest::tpms::TpmsQuoteInfo;
 use attest::tpms::TpmsSessionAuditInfo;
 use attest::tpms::TpmsTimeAttestInfo;
 use attest::tpms::TpmsTimeInfo;
-use crate::list::pcr_selection;
-use crate::tpmt;
 use keys::tpms::TpmsEccParms;
 use keys::tpms::TpmsEccPoint;
 use keys::tpms::TpmsKeyedhashParms;
@@ -96,7 +96,8 @@ pub fn ecc_point(p: Plan, x: TpmsEccPoint) -> Plan
     requires { ⌜ Room 2 p ⌝ }
     ensures { λ r. ⌜ Adds eccPoint (eccPointParts x) [] 2 p r ⌝ }
 {
-    p.buffer(limits::MAX_ECC_KEY_BYTES, x.x).buffer(limits::MAX_ECC_KEY_BYTES, x.y)
+    p.buffer(limits::MAX_ECC_KEY_BYTES, x.x)
+        .buffer(limits::MAX_ECC_KEY_BYTES, x.y)
 }
 
 // TPMS_SIGNATURE_RSA
@@ -124,7 +125,10 @@ pub fn clock_info(p: Plan, x: TpmsClockInfo) -> Plan
     requires { ⌜ Room 4 p ⌝ }
     ensures { λ r. ⌜ Adds clockInfo (clockInfoParts x) [] 4 p r ⌝ }
 {
-    p.uint64(x.clock).uint32(x.reset_count).uint32(x.restart_count).yes_no(x.safe)
+    p.uint64(x.clock)
+        .uint32(x.reset_count)
+        .uint32(x.restart_count)
+        .yes_no(x.safe)
 }
 
 // TPMS_TIME_INFO
@@ -142,7 +146,8 @@ pub fn certify_info(p: Plan, x: TpmsCertifyInfo) -> Plan
     requires { ⌜ Room 2 p ⌝ }
     ensures { λ r. ⌜ Adds certifyInfo (certifyInfoParts x) [] 2 p r ⌝ }
 {
-    p.buffer(limits::MAX_NAME_SIZE, x.name).buffer(limits::MAX_NAME_SIZE, x.qualified_name)
+    p.buffer(limits::MAX_NAME_SIZE, x.name)
+        .buffer(limits::MAX_NAME_SIZE, x.qualified_name)
 }
 
 // TPMS_CREATION_INFO
@@ -180,7 +185,8 @@ pub fn session_audit_info(p: Plan, x: TpmsSessionAuditInfo) -> Plan
     requires { ⌜ Room 2 p ⌝ }
     ensures { λ r. ⌜ Adds sessionAuditInfo (sessionAuditInfoParts x) [] 2 p r ⌝ }
 {
-    p.yes_no(x.exclusive_session).buffer(limits::MAX_DIGEST_SIZE, x.session_digest)
+    p.yes_no(x.exclusive_session)
+        .buffer(limits::MAX_DIGEST_SIZE, x.session_digest)
 }
 
 // TPMS_TIME_ATTEST_INFO
@@ -208,5 +214,6 @@ pub fn nv_digest_certify_info(p: Plan, x: TpmsNvDigestCertifyInfo) -> Plan
     requires { ⌜ Room 2 p ⌝ }
     ensures { λ r. ⌜ Adds nvDigestCertifyInfo (nvDigestCertifyInfoParts x) [] 2 p r ⌝ }
 {
-    p.buffer(limits::MAX_NAME_SIZE, x.index_name).buffer(limits::MAX_DIGEST_SIZE, x.nv_digest)
+    p.buffer(limits::MAX_NAME_SIZE, x.index_name)
+        .buffer(limits::MAX_DIGEST_SIZE, x.nv_digest)
 }

@@ -136,7 +136,10 @@ pub fn public(p: Plan, x: TpmtPublic) -> Plan
     let s = x.auth_policy;
     let y = x.parameters;
     let u = x.unique;
-    let q = p.algorithm(a).algorithm(n).uint32(o.0).buffer(limits::MAX_DIGEST_SIZE, s);
+    let q = p.algorithm(a)
+        .algorithm(n)
+        .uint32(o.0)
+        .buffer(limits::MAX_DIGEST_SIZE, s);
     tpmu::public_id(tpmu::public_parms(q, a, y), a, u)
 }
 
@@ -149,6 +152,8 @@ pub fn sensitive(p: Plan, x: TpmtSensitive) -> Plan
     let v = x.auth_value;
     let s = x.seed_value;
     let y = x.sensitive;
-    let q = p.algorithm(a).buffer(limits::MAX_DIGEST_SIZE, v).buffer(limits::MAX_DIGEST_SIZE, s);
+    let q = p.algorithm(a)
+        .buffer(limits::MAX_DIGEST_SIZE, v)
+        .buffer(limits::MAX_DIGEST_SIZE, s);
     tpmu::sensitive_composite(q, a, y)
 }

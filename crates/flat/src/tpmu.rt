@@ -1,5 +1,4 @@
 // The steps of unions: where the arm is due, and the fields of the arm that is held.
-use attest::tpmu::TpmuAttest;
 use crate::tpms::certify_info;
 use crate::tpms::command_audit_info;
 use crate::tpms::creation_info;
@@ -18,6 +17,7 @@ use crate::tpms::signature_rsa;
 use crate::tpms::symcipher_parms;
 use crate::tpms::time_attest_info;
 use crate::tpmt;
+use attest::tpmu::TpmuAttest;
 use keys::tpmu::TpmuPublicId;
 use keys::tpmu::TpmuPublicParms;
 use keys::tpmu::TpmuSensitiveComposite;

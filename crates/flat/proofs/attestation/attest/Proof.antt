@@ -33,10 +33,12 @@ attest-requires c κs = search needs
 returns : tie.Need-returns
 unfolding attest
 returns c =
-    adds-number Four magic _ _ (c .before .before .before .before .before .before .magic .ensures) (adds-number Two attestation _ _
-    (c .before .before .before .before .before .attestation .ensures) (adds-buffer 66 _ (omega arith) (c .before .before .before .before .buffer .ensures)
-    (adds-buffer 66 _ (omega arith) (c .before .before .before .buffer2 .ensures) (adds-then (c .before .before .clock-info .ensures) (adds-number Eight free _ _
-    (c .before .uint64 .ensures) (c .attest .ensures))))))
+    adds-number Four magic _ _ (c .before .before .before .before .before .before .magic .ensures)
+    (adds-number Two attestation _ _ (c .before .before .before .before .before .attestation .ensures)
+    (adds-buffer 66 _ (omega arith) (c .before .before .before .before .buffer .ensures)
+    (adds-buffer 66 _ (omega arith) (c .before .before .before .buffer2 .ensures)
+    (adds-then (c .before .before .clock-info .ensures)
+    (adds-number Eight free _ _ (c .before .uint64 .ensures) (c .attest .ensures))))))
 
 pub attest-spec : {M : Type 1} → statement M
 attest-spec =

@@ -23,8 +23,10 @@ yes-no-requires c κs = search needs
 returns : tie.Need-returns
 unfolding clockInfo
 returns c =
-    adds-number Eight free _ _ (c .before .before .before .uint64 .ensures) (adds-number Four free _ _ (c .before .before .uint32 .ensures) (adds-number Four free _ _
-    (c .before .uint322 .ensures) (adds-last-number One yesNo _ (c .yes-no .ensures))))
+    adds-number Eight free _ _ (c .before .before .before .uint64 .ensures)
+    (adds-number Four free _ _ (c .before .before .uint32 .ensures)
+    (adds-number Four free _ _ (c .before .uint322 .ensures)
+    (adds-last-number One yesNo _ (c .yes-no .ensures))))
 
 pub clock-info-spec : {M : Type 1} → statement M
 clock-info-spec =

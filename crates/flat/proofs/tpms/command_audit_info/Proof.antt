@@ -24,8 +24,10 @@ buffer-requires-2 c κs = search needs
 returns : tie.Need-returns
 unfolding commandAuditInfo
 returns c =
-    adds-number Eight free _ _ (c .before .before .before .uint64 .ensures) (adds-number Two alg _ _ (c .before .before .algorithm .ensures) (adds-buffer 64 _
-    (omega arith) (c .before .buffer .ensures) (adds-last-buffer 64 _ (omega arith) (c .buffer2 .ensures))))
+    adds-number Eight free _ _ (c .before .before .before .uint64 .ensures)
+    (adds-number Two alg _ _ (c .before .before .algorithm .ensures)
+    (adds-buffer 64 _ (omega arith) (c .before .buffer .ensures)
+    (adds-last-buffer 64 _ (omega arith) (c .buffer2 .ensures))))
 
 pub command-audit-info-spec : {M : Type 1} → statement M
 command-audit-info-spec =

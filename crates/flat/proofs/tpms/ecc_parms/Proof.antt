@@ -22,8 +22,9 @@ kdf-scheme-requires c κs = search needs
 returns : tie.Need-returns
 unfolding eccParms
 returns c =
-    adds-then (c .before .before .before .sym-def .ensures) (adds-then (c .before .before .ecc-scheme .ensures) (adds-number Two curve _ _ (c .before .curve .ensures)
-    (c .kdf-scheme .ensures)))
+    adds-then (c .before .before .before .sym-def .ensures)
+    (adds-then (c .before .before .ecc-scheme .ensures)
+    (adds-number Two curve _ _ (c .before .curve .ensures) (c .kdf-scheme .ensures)))
 
 pub ecc-parms-spec : {M : Type 1} → statement M
 ecc-parms-spec =

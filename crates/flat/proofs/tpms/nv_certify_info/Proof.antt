@@ -20,8 +20,9 @@ buffer-requires-2 c κs = search needs
 returns : tie.Need-returns
 unfolding nvCertifyInfo
 returns c =
-    adds-buffer 66 _ (omega arith) (c .before .before .buffer .ensures) (adds-number Two free _ _ (c .before .uint16 .ensures) (adds-last-buffer 2048 _ (omega arith)
-    (c .buffer2 .ensures)))
+    adds-buffer 66 _ (omega arith) (c .before .before .buffer .ensures)
+    (adds-number Two free _ _ (c .before .uint16 .ensures)
+    (adds-last-buffer 2048 _ (omega arith) (c .buffer2 .ensures)))
 
 pub nv-certify-info-spec : {M : Type 1} → statement M
 nv-certify-info-spec =

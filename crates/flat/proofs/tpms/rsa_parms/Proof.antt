@@ -22,7 +22,9 @@ uint32-requires c κs = search needs
 returns : tie.Need-returns
 unfolding rsaParms
 returns c =
-    adds-then (c .before .before .before .sym-def .ensures) (adds-then (c .before .before .rsa-scheme .ensures) (adds-number Two free _ _ (c .before .uint16 .ensures)
+    adds-then (c .before .before .before .sym-def .ensures)
+    (adds-then (c .before .before .rsa-scheme .ensures)
+    (adds-number Two free _ _ (c .before .uint16 .ensures)
     (adds-last-number Four free _ (c .uint32 .ensures))))
 
 pub rsa-parms-spec : {M : Type 1} → statement M

@@ -20,8 +20,9 @@ buffer-requires-2 c κs = search needs
 returns : tie.Need-returns
 unfolding signatureEcc
 returns c =
-    adds-number Two alg _ _ (c .before .before .algorithm .ensures) (adds-buffer 66 _ (omega arith) (c .before .buffer .ensures) (adds-last-buffer 66 _ (omega arith)
-    (c .buffer2 .ensures)))
+    adds-number Two alg _ _ (c .before .before .algorithm .ensures)
+    (adds-buffer 66 _ (omega arith) (c .before .buffer .ensures)
+    (adds-last-buffer 66 _ (omega arith) (c .buffer2 .ensures)))
 
 pub signature-ecc-spec : {M : Type 1} → statement M
 signature-ecc-spec =

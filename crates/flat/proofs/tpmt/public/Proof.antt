@@ -30,9 +30,11 @@ public-id-requires c κs = search needs
 returns : tie.Need-returns
 unfolding publicArea
 returns c =
-    adds-number Two alg _ _ (c .before .before .before .before .before .algorithm .ensures) (adds-number Two alg _ _
-    (c .before .before .before .before .algorithm2 .ensures) (adds-number Four free _ _ (c .before .before .before .uint32 .ensures) (adds-buffer 64 _ (omega arith)
-    (c .before .before .buffer .ensures) (adds-then (c .before .public-parms .ensures) (c .public-id .ensures)))))
+    adds-number Two alg _ _ (c .before .before .before .before .before .algorithm .ensures)
+    (adds-number Two alg _ _ (c .before .before .before .before .algorithm2 .ensures)
+    (adds-number Four free _ _ (c .before .before .before .uint32 .ensures)
+    (adds-buffer 64 _ (omega arith) (c .before .before .buffer .ensures)
+    (adds-then (c .before .public-parms .ensures) (c .public-id .ensures)))))
 
 pub public-spec : {M : Type 1} → statement M
 public-spec =

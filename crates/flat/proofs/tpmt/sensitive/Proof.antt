@@ -23,8 +23,9 @@ sensitive-composite-requires c κs = search needs
 returns : tie.Need-returns
 unfolding sensitive
 returns c =
-    adds-number Two alg _ _ (c .before .before .before .algorithm .ensures) (adds-buffer 64 _ (omega arith) (c .before .before .buffer .ensures) (adds-buffer 64 _
-    (omega arith) (c .before .buffer2 .ensures) (c .sensitive-composite .ensures)))
+    adds-number Two alg _ _ (c .before .before .before .algorithm .ensures)
+    (adds-buffer 64 _ (omega arith) (c .before .before .buffer .ensures)
+    (adds-buffer 64 _ (omega arith) (c .before .buffer2 .ensures) (c .sensitive-composite .ensures)))
 
 pub sensitive-spec : {M : Type 1} → statement M
 sensitive-spec =

@@ -36,8 +36,9 @@ returns c =
 returns-2 : tie.Need-returns-2
 unfolding asymBy
 returns-2 c =
-    adds-more (omega arith) (holds-none _ (c .before .before .before .before .asym-arm .ensures) (c .before .before .before .matches-tag .ensures)
-    (c .before .before .due .ensures .0) asymBody (ap asymParts (c .enum-told .given .1)) refl)
+    adds-more (omega arith)
+    (holds-none _ (c .before .before .before .before .asym-arm .ensures) (c .before .before .before .matches-tag .ensures) (c .before .before .due .ensures .0) asymBody
+    (ap asymParts (c .enum-told .given .1)) refl)
 
 pub asym-scheme-spec : {M : Type 1} → statement M
 asym-scheme-spec =

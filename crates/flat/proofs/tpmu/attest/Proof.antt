@@ -70,58 +70,65 @@ nv-digest-certify-info-requires c κs = search needs
 returns : tie.Need-returns
 unfolding attestBy
 returns c =
-    adds-more (omega arith) (holds-lists _ (c .before .before .before .before .before .before .attest-arm .ensures)
-    (c .before .before .before .before .before .matches-tag .ensures) (c .before .before .before .before .due .ensures .0) attestBody (ap attestedParts
-    (c .before .before .x .given .1)) (ap attestedLists (c .before .before .x .given .1)) refl (c .certify-info .ensures))
+    adds-more (omega arith)
+    (holds-lists _ (c .before .before .before .before .before .before .attest-arm .ensures) (c .before .before .before .before .before .matches-tag .ensures)
+    (c .before .before .before .before .due .ensures .0) attestBody (ap attestedParts (c .before .before .x .given .1)) (ap attestedLists (c .before .before .x .given .1)) refl
+    (c .certify-info .ensures))
 
 returns-2 : tie.Need-returns-2
 unfolding attestBy
 returns-2 c =
-    adds-more (omega arith) (holds-lists _ (c .before .before .before .before .before .before .attest-arm .ensures)
-    (c .before .before .before .before .before .matches-tag .ensures) (c .before .before .before .before .due .ensures .0) attestBody (ap attestedParts
-    (c .before .before .x2 .given .1)) (ap attestedLists (c .before .before .x2 .given .1)) refl (c .creation-info .ensures))
+    adds-more (omega arith)
+    (holds-lists _ (c .before .before .before .before .before .before .attest-arm .ensures) (c .before .before .before .before .before .matches-tag .ensures)
+    (c .before .before .before .before .due .ensures .0) attestBody (ap attestedParts (c .before .before .x2 .given .1)) (ap attestedLists (c .before .before .x2 .given .1)) refl
+    (c .creation-info .ensures))
 
 returns-3 : tie.Need-returns-3
 unfolding attestBy
 returns-3 c =
-    adds-more (omega arith) (holds-lists _ (c .before .before .before .before .before .before .attest-arm .ensures)
-    (c .before .before .before .before .before .matches-tag .ensures) (c .before .before .before .before .due .ensures .0) attestBody (ap attestedParts
-    (c .before .before .x3 .given .1)) (ap attestedLists (c .before .before .x3 .given .1)) refl (c .quote-info .ensures))
+    adds-more (omega arith)
+    (holds-lists _ (c .before .before .before .before .before .before .attest-arm .ensures) (c .before .before .before .before .before .matches-tag .ensures)
+    (c .before .before .before .before .due .ensures .0) attestBody (ap attestedParts (c .before .before .x3 .given .1)) (ap attestedLists (c .before .before .x3 .given .1)) refl
+    (c .quote-info .ensures))
 
 returns-4 : tie.Need-returns-4
 unfolding attestBy
 returns-4 c =
-    adds-more (omega arith) (holds-lists _ (c .before .before .before .before .before .before .attest-arm .ensures)
-    (c .before .before .before .before .before .matches-tag .ensures) (c .before .before .before .before .due .ensures .0) attestBody (ap attestedParts
-    (c .before .before .x4 .given .1)) (ap attestedLists (c .before .before .x4 .given .1)) refl (c .command-audit-info .ensures))
+    adds-more (omega arith)
+    (holds-lists _ (c .before .before .before .before .before .before .attest-arm .ensures) (c .before .before .before .before .before .matches-tag .ensures)
+    (c .before .before .before .before .due .ensures .0) attestBody (ap attestedParts (c .before .before .x4 .given .1)) (ap attestedLists (c .before .before .x4 .given .1)) refl
+    (c .command-audit-info .ensures))
 
 returns-5 : tie.Need-returns-5
 unfolding attestBy
 returns-5 c =
-    adds-more (omega arith) (holds-lists _ (c .before .before .before .before .before .before .attest-arm .ensures)
-    (c .before .before .before .before .before .matches-tag .ensures) (c .before .before .before .before .due .ensures .0) attestBody (ap attestedParts
-    (c .before .before .x5 .given .1)) (ap attestedLists (c .before .before .x5 .given .1)) refl (c .session-audit-info .ensures))
+    adds-more (omega arith)
+    (holds-lists _ (c .before .before .before .before .before .before .attest-arm .ensures) (c .before .before .before .before .before .matches-tag .ensures)
+    (c .before .before .before .before .due .ensures .0) attestBody (ap attestedParts (c .before .before .x5 .given .1)) (ap attestedLists (c .before .before .x5 .given .1)) refl
+    (c .session-audit-info .ensures))
 
 returns-6 : tie.Need-returns-6
 unfolding attestBy
 returns-6 c =
     holds-lists _ (c .before .before .before .before .before .before .attest-arm .ensures) (c .before .before .before .before .before .matches-tag .ensures)
-    (c .before .before .before .before .due .ensures .0) attestBody (ap attestedParts (c .before .before .x6 .given .1)) (ap attestedLists
-    (c .before .before .x6 .given .1)) refl (c .time-attest-info .ensures)
+    (c .before .before .before .before .due .ensures .0) attestBody (ap attestedParts (c .before .before .x6 .given .1)) (ap attestedLists (c .before .before .x6 .given .1)) refl
+    (c .time-attest-info .ensures)
 
 returns-7 : tie.Need-returns-7
 unfolding attestBy
 returns-7 c =
-    adds-more (omega arith) (holds-lists _ (c .before .before .before .before .before .before .attest-arm .ensures)
-    (c .before .before .before .before .before .matches-tag .ensures) (c .before .before .before .before .due .ensures .0) attestBody (ap attestedParts
-    (c .before .before .x7 .given .1)) (ap attestedLists (c .before .before .x7 .given .1)) refl (c .nv-certify-info .ensures))
+    adds-more (omega arith)
+    (holds-lists _ (c .before .before .before .before .before .before .attest-arm .ensures) (c .before .before .before .before .before .matches-tag .ensures)
+    (c .before .before .before .before .due .ensures .0) attestBody (ap attestedParts (c .before .before .x7 .given .1)) (ap attestedLists (c .before .before .x7 .given .1)) refl
+    (c .nv-certify-info .ensures))
 
 returns-8 : tie.Need-returns-8
 unfolding attestBy
 returns-8 c =
-    adds-more (omega arith) (holds-lists _ (c .before .before .before .before .before .before .attest-arm .ensures)
-    (c .before .before .before .before .before .matches-tag .ensures) (c .before .before .before .before .due .ensures .0) attestBody (ap attestedParts
-    (c .before .before .x8 .given .1)) (ap attestedLists (c .before .before .x8 .given .1)) refl (c .nv-digest-certify-info .ensures))
+    adds-more (omega arith)
+    (holds-lists _ (c .before .before .before .before .before .before .attest-arm .ensures) (c .before .before .before .before .before .matches-tag .ensures)
+    (c .before .before .before .before .due .ensures .0) attestBody (ap attestedParts (c .before .before .x8 .given .1)) (ap attestedLists (c .before .before .x8 .given .1)) refl
+    (c .nv-digest-certify-info .ensures))
 
 pub attest-spec : {M : Type 1} → statement M
 attest-spec =

@@ -33,15 +33,15 @@ push-requires c κs = search needs
 returns : tie.Need-returns
 unfolding haBy
 returns c =
-    adds-more (omega arith) (holds-none _ (c .before .before .before .before .digest-arm .ensures) (c .before .before .before .matches-tag .ensures)
-    (c .before .before .due .ensures .0) haBody (ap digestParts (c .enum-told .given .1)) refl)
+    adds-more (omega arith)
+    (holds-none _ (c .before .before .before .before .digest-arm .ensures) (c .before .before .before .matches-tag .ensures) (c .before .before .due .ensures .0) haBody
+    (ap digestParts (c .enum-told .given .1)) refl)
 
 returns-2 : tie.Need-returns-2
 unfolding haBy
 returns-2 c =
-    holds-digest _ (c .before .before .before .before .before .before .before .digest-arm .ensures)
-    (c .before .before .before .before .before .before .matches-tag .ensures) (c .before .before .before .before .before .due .ensures .0) _ (ap digestParts
-    (c .before .before .before .x .given .1)) (c .before .due-size .ensures) (c .push .ensures)
+    holds-digest _ (c .before .before .before .before .before .before .before .digest-arm .ensures) (c .before .before .before .before .before .before .matches-tag .ensures)
+    (c .before .before .before .before .before .due .ensures .0) _ (ap digestParts (c .before .before .before .x .given .1)) (c .before .due-size .ensures) (c .push .ensures)
 
 pub ha-spec : {M : Type 1} → statement M
 ha-spec =

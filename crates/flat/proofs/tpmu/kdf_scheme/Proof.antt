@@ -72,8 +72,9 @@ returns-4 c =
 returns-5 : tie.Need-returns-5
 unfolding kdfBy
 returns-5 c =
-    adds-more (omega arith) (holds-none _ (c .before .before .before .before .kdf-arm .ensures) (c .before .before .before .matches-tag .ensures)
-    (c .before .before .due .ensures .0) kdfBody (ap kdfParts (c .enum-told .given .1)) refl)
+    adds-more (omega arith)
+    (holds-none _ (c .before .before .before .before .kdf-arm .ensures) (c .before .before .before .matches-tag .ensures) (c .before .before .due .ensures .0) kdfBody
+    (ap kdfParts (c .enum-told .given .1)) refl)
 
 pub kdf-scheme-spec : {M : Type 1} → statement M
 kdf-scheme-spec =

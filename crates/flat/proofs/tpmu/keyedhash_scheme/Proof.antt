@@ -36,9 +36,9 @@ enum-told c = search needs
 returns : tie.Need-returns
 unfolding keyedhashBy
 returns c =
-    adds-more (omega arith) (holds _ (c .before .before .before .before .before .before .keyedhash-arm .ensures)
-    (c .before .before .before .before .before .matches-tag .ensures) (c .before .before .before .before .due .ensures .0) keyedhashBody (ap keyedhashParts
-    (c .before .before .x .given .1)) refl (c .scheme-hash .ensures))
+    adds-more (omega arith)
+    (holds _ (c .before .before .before .before .before .before .keyedhash-arm .ensures) (c .before .before .before .before .before .matches-tag .ensures)
+    (c .before .before .before .before .due .ensures .0) keyedhashBody (ap keyedhashParts (c .before .before .x .given .1)) refl (c .scheme-hash .ensures))
 
 returns-2 : tie.Need-returns-2
 unfolding keyedhashBy
@@ -49,8 +49,9 @@ returns-2 c =
 returns-3 : tie.Need-returns-3
 unfolding keyedhashBy
 returns-3 c =
-    adds-more (omega arith) (holds-none _ (c .before .before .before .before .keyedhash-arm .ensures) (c .before .before .before .matches-tag .ensures)
-    (c .before .before .due .ensures .0) keyedhashBody (ap keyedhashParts (c .enum-told .given .1)) refl)
+    adds-more (omega arith)
+    (holds-none _ (c .before .before .before .before .keyedhash-arm .ensures) (c .before .before .before .matches-tag .ensures) (c .before .before .due .ensures .0) keyedhashBody
+    (ap keyedhashParts (c .enum-told .given .1)) refl)
 
 pub keyedhash-scheme-spec : {M : Type 1} → statement M
 keyedhash-scheme-spec =

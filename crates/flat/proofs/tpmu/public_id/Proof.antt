@@ -48,23 +48,26 @@ enum-told c = search needs
 returns : tie.Need-returns
 unfolding uniqueBy
 returns c =
-    adds-more (omega arith) (holds _ (c .before .before .before .before .before .before .type-arm .ensures)
-    (c .before .before .before .before .before .matches-tag .ensures) (c .before .before .before .before .due .ensures .0) uniqueBody (ap uniqueParts
-    (c .before .before .x .given .1)) refl (adds-last-buffer 64 _ (omega arith) (c .buffer .ensures)))
+    adds-more (omega arith)
+    (holds _ (c .before .before .before .before .before .before .type-arm .ensures) (c .before .before .before .before .before .matches-tag .ensures)
+    (c .before .before .before .before .due .ensures .0) uniqueBody (ap uniqueParts (c .before .before .x .given .1)) refl (adds-last-buffer 64 _ (omega arith)
+    (c .buffer .ensures)))
 
 returns-2 : tie.Need-returns-2
 unfolding uniqueBy
 returns-2 c =
-    adds-more (omega arith) (holds _ (c .before .before .before .before .before .before .type-arm .ensures)
-    (c .before .before .before .before .before .matches-tag .ensures) (c .before .before .before .before .due .ensures .0) uniqueBody (ap uniqueParts
-    (c .before .before .x2 .given .1)) refl (adds-last-buffer 32 _ (omega arith) (c .buffer2 .ensures)))
+    adds-more (omega arith)
+    (holds _ (c .before .before .before .before .before .before .type-arm .ensures) (c .before .before .before .before .before .matches-tag .ensures)
+    (c .before .before .before .before .due .ensures .0) uniqueBody (ap uniqueParts (c .before .before .x2 .given .1)) refl (adds-last-buffer 32 _ (omega arith)
+    (c .buffer2 .ensures)))
 
 returns-3 : tie.Need-returns-3
 unfolding uniqueBy
 returns-3 c =
-    adds-more (omega arith) (holds _ (c .before .before .before .before .before .before .type-arm .ensures)
-    (c .before .before .before .before .before .matches-tag .ensures) (c .before .before .before .before .due .ensures .0) uniqueBody (ap uniqueParts
-    (c .before .before .x3 .given .1)) refl (adds-last-buffer 512 _ (omega arith) (c .buffer3 .ensures)))
+    adds-more (omega arith)
+    (holds _ (c .before .before .before .before .before .before .type-arm .ensures) (c .before .before .before .before .before .matches-tag .ensures)
+    (c .before .before .before .before .due .ensures .0) uniqueBody (ap uniqueParts (c .before .before .x3 .given .1)) refl (adds-last-buffer 512 _ (omega arith)
+    (c .buffer3 .ensures)))
 
 returns-4 : tie.Need-returns-4
 unfolding uniqueBy
@@ -75,8 +78,9 @@ returns-4 c =
 returns-5 : tie.Need-returns-5
 unfolding uniqueBy
 returns-5 c =
-    adds-more (omega arith) (holds-none _ (c .before .before .before .before .type-arm .ensures) (c .before .before .before .matches-tag .ensures)
-    (c .before .before .due .ensures .0) uniqueBody (ap uniqueParts (c .enum-told .given .1)) refl)
+    adds-more (omega arith)
+    (holds-none _ (c .before .before .before .before .type-arm .ensures) (c .before .before .before .matches-tag .ensures) (c .before .before .due .ensures .0) uniqueBody
+    (ap uniqueParts (c .enum-told .given .1)) refl)
 
 pub public-id-spec : {M : Type 1} → statement M
 public-id-spec =

@@ -48,23 +48,23 @@ enum-told c = search needs
 returns : tie.Need-returns
 unfolding parmsBy
 returns c =
-    adds-more (omega arith) (holds _ (c .before .before .before .before .before .before .type-arm .ensures)
-    (c .before .before .before .before .before .matches-tag .ensures) (c .before .before .before .before .due .ensures .0) parmsBody (ap parmsParts
-    (c .before .before .x .given .1)) refl (c .keyedhash-parms .ensures))
+    adds-more (omega arith)
+    (holds _ (c .before .before .before .before .before .before .type-arm .ensures) (c .before .before .before .before .before .matches-tag .ensures)
+    (c .before .before .before .before .due .ensures .0) parmsBody (ap parmsParts (c .before .before .x .given .1)) refl (c .keyedhash-parms .ensures))
 
 returns-2 : tie.Need-returns-2
 unfolding parmsBy
 returns-2 c =
-    adds-more (omega arith) (holds _ (c .before .before .before .before .before .before .type-arm .ensures)
-    (c .before .before .before .before .before .matches-tag .ensures) (c .before .before .before .before .due .ensures .0) parmsBody (ap parmsParts
-    (c .before .before .x2 .given .1)) refl (c .symcipher-parms .ensures))
+    adds-more (omega arith)
+    (holds _ (c .before .before .before .before .before .before .type-arm .ensures) (c .before .before .before .before .before .matches-tag .ensures)
+    (c .before .before .before .before .due .ensures .0) parmsBody (ap parmsParts (c .before .before .x2 .given .1)) refl (c .symcipher-parms .ensures))
 
 returns-3 : tie.Need-returns-3
 unfolding parmsBy
 returns-3 c =
-    adds-more (omega arith) (holds _ (c .before .before .before .before .before .before .type-arm .ensures)
-    (c .before .before .before .before .before .matches-tag .ensures) (c .before .before .before .before .due .ensures .0) parmsBody (ap parmsParts
-    (c .before .before .x3 .given .1)) refl (c .rsa-parms .ensures))
+    adds-more (omega arith)
+    (holds _ (c .before .before .before .before .before .before .type-arm .ensures) (c .before .before .before .before .before .matches-tag .ensures)
+    (c .before .before .before .before .due .ensures .0) parmsBody (ap parmsParts (c .before .before .x3 .given .1)) refl (c .rsa-parms .ensures))
 
 returns-4 : tie.Need-returns-4
 unfolding parmsBy
@@ -75,8 +75,9 @@ returns-4 c =
 returns-5 : tie.Need-returns-5
 unfolding parmsBy
 returns-5 c =
-    adds-more (omega arith) (holds-none _ (c .before .before .before .before .type-arm .ensures) (c .before .before .before .matches-tag .ensures)
-    (c .before .before .due .ensures .0) parmsBody (ap parmsParts (c .enum-told .given .1)) refl)
+    adds-more (omega arith)
+    (holds-none _ (c .before .before .before .before .type-arm .ensures) (c .before .before .before .matches-tag .ensures) (c .before .before .due .ensures .0) parmsBody
+    (ap parmsParts (c .enum-told .given .1)) refl)
 
 pub public-parms-spec : {M : Type 1} → statement M
 public-parms-spec =

@@ -48,8 +48,9 @@ returns-2 c =
 returns-3 : tie.Need-returns-3
 unfolding sigBy
 returns-3 c =
-    adds-more (omega arith) (holds-none _ (c .before .before .before .before .sig-arm .ensures) (c .before .before .before .matches-tag .ensures)
-    (c .before .before .due .ensures .0) sigBody (ap sigParts (c .enum-told .given .1)) refl)
+    adds-more (omega arith)
+    (holds-none _ (c .before .before .before .before .sig-arm .ensures) (c .before .before .before .matches-tag .ensures) (c .before .before .due .ensures .0) sigBody
+    (ap sigParts (c .enum-told .given .1)) refl)
 
 pub sig-scheme-spec : {M : Type 1} → statement M
 sig-scheme-spec =

@@ -66,16 +66,16 @@ enum-told c = search needs
 returns : tie.Need-returns
 unfolding signatureBy
 returns c =
-    adds-more (omega arith) (holds _ (c .before .before .before .before .before .before .signature-arm .ensures)
-    (c .before .before .before .before .before .matches-tag .ensures) (c .before .before .before .before .due .ensures .0) signatureBody (ap sigUnionParts
-    (c .before .before .x .given .1)) refl (c .signature-rsa .ensures))
+    adds-more (omega arith)
+    (holds _ (c .before .before .before .before .before .before .signature-arm .ensures) (c .before .before .before .before .before .matches-tag .ensures)
+    (c .before .before .before .before .due .ensures .0) signatureBody (ap sigUnionParts (c .before .before .x .given .1)) refl (c .signature-rsa .ensures))
 
 returns-2 : tie.Need-returns-2
 unfolding signatureBy
 returns-2 c =
-    adds-more (omega arith) (holds _ (c .before .before .before .before .before .before .signature-arm .ensures)
-    (c .before .before .before .before .before .matches-tag .ensures) (c .before .before .before .before .due .ensures .0) signatureBody (ap sigUnionParts
-    (c .before .before .x2 .given .1)) refl (c .signature-rsa2 .ensures))
+    adds-more (omega arith)
+    (holds _ (c .before .before .before .before .before .before .signature-arm .ensures) (c .before .before .before .before .before .matches-tag .ensures)
+    (c .before .before .before .before .due .ensures .0) signatureBody (ap sigUnionParts (c .before .before .x2 .given .1)) refl (c .signature-rsa2 .ensures))
 
 returns-3 : tie.Need-returns-3
 unfolding signatureBy
@@ -110,8 +110,9 @@ returns-7 c =
 returns-8 : tie.Need-returns-8
 unfolding signatureBy
 returns-8 c =
-    adds-more (omega arith) (holds-none _ (c .before .before .before .before .signature-arm .ensures) (c .before .before .before .matches-tag .ensures)
-    (c .before .before .due .ensures .0) signatureBody (ap sigUnionParts (c .enum-told .given .1)) refl)
+    adds-more (omega arith)
+    (holds-none _ (c .before .before .before .before .signature-arm .ensures) (c .before .before .before .matches-tag .ensures) (c .before .before .due .ensures .0) signatureBody
+    (ap sigUnionParts (c .enum-told .given .1)) refl)
 
 pub signature-spec : {M : Type 1} → statement M
 signature-spec =

@@ -52,35 +52,32 @@ returns : tie.Need-returns
 unfolding keyBitsBy
 returns c =
     holds _ (c .before .before .before .before .before .before .cipher-arm .ensures) (c .before .before .before .before .before .matches-tag .ensures)
-    (c .before .before .before .before .due .ensures .0) keyBitsBody (ap keyBitsParts (c .before .before .x .given .1)) refl (adds-last-number Two free _
-    (c .uint16 .ensures))
+    (c .before .before .before .before .due .ensures .0) keyBitsBody (ap keyBitsParts (c .before .before .x .given .1)) refl (adds-last-number Two free _ (c .uint16 .ensures))
 
 returns-2 : tie.Need-returns-2
 unfolding keyBitsBy
 returns-2 c =
     holds _ (c .before .before .before .before .before .before .cipher-arm .ensures) (c .before .before .before .before .before .matches-tag .ensures)
-    (c .before .before .before .before .due .ensures .0) keyBitsBody (ap keyBitsParts (c .before .before .x2 .given .1)) refl (adds-last-number Two free _
-    (c .uint162 .ensures))
+    (c .before .before .before .before .due .ensures .0) keyBitsBody (ap keyBitsParts (c .before .before .x2 .given .1)) refl (adds-last-number Two free _ (c .uint162 .ensures))
 
 returns-3 : tie.Need-returns-3
 unfolding keyBitsBy
 returns-3 c =
     holds _ (c .before .before .before .before .before .before .cipher-arm .ensures) (c .before .before .before .before .before .matches-tag .ensures)
-    (c .before .before .before .before .due .ensures .0) keyBitsBody (ap keyBitsParts (c .before .before .x3 .given .1)) refl (adds-last-number Two free _
-    (c .uint163 .ensures))
+    (c .before .before .before .before .due .ensures .0) keyBitsBody (ap keyBitsParts (c .before .before .x3 .given .1)) refl (adds-last-number Two free _ (c .uint163 .ensures))
 
 returns-4 : tie.Need-returns-4
 unfolding keyBitsBy
 returns-4 c =
     holds _ (c .before .before .before .before .before .before .cipher-arm .ensures) (c .before .before .before .before .before .matches-tag .ensures)
-    (c .before .before .before .before .due .ensures .0) keyBitsBody (ap keyBitsParts (c .before .before .x4 .given .1)) refl (adds-last-number Two alg _
-    (c .algorithm .ensures))
+    (c .before .before .before .before .due .ensures .0) keyBitsBody (ap keyBitsParts (c .before .before .x4 .given .1)) refl (adds-last-number Two alg _ (c .algorithm .ensures))
 
 returns-5 : tie.Need-returns-5
 unfolding keyBitsBy
 returns-5 c =
-    adds-more (omega arith) (holds-none _ (c .before .before .before .before .cipher-arm .ensures) (c .before .before .before .matches-tag .ensures)
-    (c .before .before .due .ensures .0) keyBitsBody (ap keyBitsParts (c .enum-told .given .1)) refl)
+    adds-more (omega arith)
+    (holds-none _ (c .before .before .before .before .cipher-arm .ensures) (c .before .before .before .matches-tag .ensures) (c .before .before .due .ensures .0) keyBitsBody
+    (ap keyBitsParts (c .enum-told .given .1)) refl)
 
 pub sym-key-bits-spec : {M : Type 1} → statement M
 sym-key-bits-spec =

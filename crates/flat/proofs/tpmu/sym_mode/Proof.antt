@@ -51,35 +51,32 @@ returns : tie.Need-returns
 unfolding modeBy
 returns c =
     holds _ (c .before .before .before .before .before .before .cipher-arm .ensures) (c .before .before .before .before .before .matches-tag .ensures)
-    (c .before .before .before .before .due .ensures .0) modeBody (ap modeParts (c .before .before .x .given .1)) refl (adds-last-number Two alg _
-    (c .algorithm .ensures))
+    (c .before .before .before .before .due .ensures .0) modeBody (ap modeParts (c .before .before .x .given .1)) refl (adds-last-number Two alg _ (c .algorithm .ensures))
 
 returns-2 : tie.Need-returns-2
 unfolding modeBy
 returns-2 c =
     holds _ (c .before .before .before .before .before .before .cipher-arm .ensures) (c .before .before .before .before .before .matches-tag .ensures)
-    (c .before .before .before .before .due .ensures .0) modeBody (ap modeParts (c .before .before .x2 .given .1)) refl (adds-last-number Two alg _
-    (c .algorithm2 .ensures))
+    (c .before .before .before .before .due .ensures .0) modeBody (ap modeParts (c .before .before .x2 .given .1)) refl (adds-last-number Two alg _ (c .algorithm2 .ensures))
 
 returns-3 : tie.Need-returns-3
 unfolding modeBy
 returns-3 c =
     holds _ (c .before .before .before .before .before .before .cipher-arm .ensures) (c .before .before .before .before .before .matches-tag .ensures)
-    (c .before .before .before .before .due .ensures .0) modeBody (ap modeParts (c .before .before .x3 .given .1)) refl (adds-last-number Two alg _
-    (c .algorithm3 .ensures))
+    (c .before .before .before .before .due .ensures .0) modeBody (ap modeParts (c .before .before .x3 .given .1)) refl (adds-last-number Two alg _ (c .algorithm3 .ensures))
 
 returns-4 : tie.Need-returns-4
 unfolding modeBy
 returns-4 c =
     holds _ (c .before .before .before .before .before .before .cipher-arm .ensures) (c .before .before .before .before .before .matches-tag .ensures)
-    (c .before .before .before .before .due .ensures .0) modeBody (ap modeParts (c .before .before .x4 .given .1)) refl (adds-last-number Two alg _
-    (c .algorithm4 .ensures))
+    (c .before .before .before .before .due .ensures .0) modeBody (ap modeParts (c .before .before .x4 .given .1)) refl (adds-last-number Two alg _ (c .algorithm4 .ensures))
 
 returns-5 : tie.Need-returns-5
 unfolding modeBy
 returns-5 c =
-    adds-more (omega arith) (holds-none _ (c .before .before .before .before .cipher-arm .ensures) (c .before .before .before .matches-tag .ensures)
-    (c .before .before .due .ensures .0) modeBody (ap modeParts (c .enum-told .given .1)) refl)
+    adds-more (omega arith)
+    (holds-none _ (c .before .before .before .before .cipher-arm .ensures) (c .before .before .before .matches-tag .ensures) (c .before .before .due .ensures .0) modeBody
+    (ap modeParts (c .enum-told .given .1)) refl)
 
 pub sym-mode-spec : {M : Type 1} → statement M
 sym-mode-spec =
