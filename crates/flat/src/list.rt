@@ -1,0 +1,16 @@
+// The steps of the PCR selection list.
+use plans::plan::Plan;
+use plans::step::Step;
+use schemes::list::TpmlPcrSelection;
+ghost use Rattle.kinds.specs.Kinds.{pcrSelections};
+ghost use Rattle.schemes.specs.Parts.{pcrSelectionsParts};
+ghost use Rattle.plans.specs.Steps.{Room, Adds};
+
+// Kind 14, TPML_PCR_SELECTION: the list is one step.
+pub fn pcr_selection(p: Plan, x: TpmlPcrSelection) -> Plan
+    requires { ⌜ Room 1 p ⌝ }
+    ensures { λ r. ⌜ Adds pcrSelections (pcrSelectionsParts x) (pcrSelectionsParts x) 1 p r ⌝ }
+{
+    let s = x.items;
+    p.push(Step::Selections(s))
+}
