@@ -20,11 +20,12 @@ use Rattle.wire.proofs.Written.{cut-found}
 use Rattle.kinds.specs.Kinds.{pcrSelection}
 use Rattle.plans.specs.Steps.{spellStep}
 use Rattle.plans.specs.Walked.{after}
+use Rattle.plans.specs.declared.step.Word.{Word}
 use Rattle.plans.specs.declared.step.Step.{Step}
 
-pub number-good : (w : Width) (n : ℕ) (src : List ℕ) (at : ℕ) {k : ℕ} → k ≡ widthOf w → found (at + k) ≡ after at (spellStep (Step.Number w n) src at)
+pub number-good : (k : Word) (w : Width) (n : ℕ) (src : List ℕ) (at : ℕ) {m : ℕ} → m ≡ widthOf w → found (at + m) ≡ after at (spellStep (Step.Number k w n) src at)
 unfolding spellStep
-number-good w n src at e = rw (e, length-digits (widthOf w) n)
+number-good k w n src at e = rw (e, length-digits (widthOf w) n)
 
 pub fails : (f : Refusal) (src : List ℕ) (at : ℕ) {g : Refusal} → g ≡ refusal (f .fault) at (f .value) → refused g ≡ after at (spellStep (Step.Fails f) src at)
 unfolding spellStep

@@ -4,7 +4,7 @@ use native.Mathlib.Omega.{arith}
 use mathlib.Core.Path.{_≡_, refl, sym, ap, _∙_}
 use mathlib.Core.Bool.{Bool, true, false, false≢true}
 use mathlib.Core.List.{List, [], _∷_, _++_, append-assoc}
-use lib.ListN.{length, length-append}
+use lib.ListN.{length, take, drop, length-append}
 use lib.Dec.{eqb}
 use borrow.Author.Tests.{eq-eqb, eqb-true, lt-ltb}
 use Rattle.wire.specs.declared.choice.Choice.{Choice}
@@ -12,18 +12,24 @@ use Rattle.wire.specs.declared.fault.Refusal.{Refusal}
 use Rattle.wire.specs.declared.span.Span.{Span}
 use Rattle.wire.specs.declared.width.Width.{Width}
 use Rattle.wire.specs.Answers.{widthOf, startOf, lenOf, spanPart}
+use Rattle.wire.specs.Bytes.{digits}
 use Rattle.wire.specs.Faults.{refusal, mismatch}
 use Rattle.wire.specs.Layout.{Rule, free, listed, fixed, lengthTo, countTo, allows, breach, Layout, stop, arm, number, plain, buffer, counted, _then_}
 use Rattle.wire.specs.Reading.{Part, num, tag, span, Ans, found, refused, next}
 use Rattle.wire.specs.Writing.{cut, spelt, whole, moved, ahead, onto, lay, spans}
 use Rattle.wire.specs.Unions.{union, isArm}
 use Rattle.wire.proofs.Digits.{length-digits}
+use Rattle.wire.proofs.Steps.{found-refused, found-same, next-found, when-found}
 use Rattle.wire.proofs.Then.{onto-none, onto-onto, lay-then, shaped-then, whole-same}
 use Rattle.wire.proofs.Written.{spelt-found, cut-found, moved-found}
 use Rattle.kinds.specs.Kinds.{pcrSelection, haBody}
-use Rattle.plans.specs.Steps.{steps, spell, spellStep, spansOf, listsOf, Pushed, Plans, Adds, numberStep, pickStep, Numbered, due, dueSize, unless}
+use Rattle.plans.specs.Steps.{steps, wordOf, laid, stepLines, linesOf, spell, spellStep, spansOf, listsOf, Pushed, Plans, Adds, numberStep, pickStep, Numbered, due, dueSize, unless}
+use Rattle.plans.specs.Lines.{line, aNumber, spanLine, sayNumber, lines}
 use Rattle.plans.specs.declared.plan.Plan.{Plan}
+use Rattle.plans.specs.declared.step.Word.{Word}
 use Rattle.plans.specs.declared.step.Step.{Step}
+use Rattle.plans.proofs.Putting.{next-step}
+use Rattle.plans.proofs.Shown.{word-says, number-goes, plain-goes, buffer-goes, counted-goes, lines-then}
 use Rattle.plans.proofs.Pushed.{pushed-none, pushed-on}
 
 -- ---- steps in a row
@@ -46,7 +52,7 @@ spans-append (span a n ∷ ps) qs = ap (λ l. span a n ∷ l) (spans-append ps q
 
 spansOf-append : (ss ts : List Step) → spansOf (ss ++ ts) ≡ spansOf ss ++ spansOf ts
 spansOf-append [] ts = refl
-spansOf-append (Step.Number w n ∷ ss) ts = spansOf-append ss ts
+spansOf-append (Step.Number k w n ∷ ss) ts = spansOf-append ss ts
 spansOf-append (Step.Plain n s ∷ ss) ts = ap (λ l. spanPart s ∷ l) (spansOf-append ss ts)
 spansOf-append (Step.Buffer m s ∷ ss) ts = ap (λ l. spanPart s ∷ l) (spansOf-append ss ts)
 spansOf-append (Step.Selections s ∷ ss) ts = ap (λ l. spanPart s ∷ l) (spansOf-append ss ts)
@@ -54,17 +60,27 @@ spansOf-append (Step.Fails f ∷ ss) ts = spansOf-append ss ts
 
 listsOf-append : (ss ts : List Step) → listsOf (ss ++ ts) ≡ listsOf ss ++ listsOf ts
 listsOf-append [] ts = refl
-listsOf-append (Step.Number w n ∷ ss) ts = listsOf-append ss ts
+listsOf-append (Step.Number k w n ∷ ss) ts = listsOf-append ss ts
 listsOf-append (Step.Plain n s ∷ ss) ts = listsOf-append ss ts
 listsOf-append (Step.Buffer m s ∷ ss) ts = listsOf-append ss ts
 listsOf-append (Step.Selections s ∷ ss) ts = ap (λ l. spanPart s ∷ l) (listsOf-append ss ts)
 listsOf-append (Step.Fails f ∷ ss) ts = listsOf-append ss ts
 
+-- the lines of steps that were judged, behind each other
+linesOf-append : (ss ts : List Step) (src : List ℕ) (at : ℕ) {xs : List ℕ} → spell ss src at ≡ found xs → linesOf (ss ++ ts) src at ≡ linesOf ss src at ++ linesOf ts src (at + length xs)
+unfolding linesOf spell
+linesOf-append [] ts src at {xs} p = let none : 0 ≡ length xs = ap length (found-same p) in ap (λ e. linesOf ts src e) (omega arith)
+linesOf-append (s ∷ ss) ts src at {xs} p =
+    let n = next-step s ss src at p in
+    let place : at + length (laid s src) + length (n .left) ≡ at + length xs = omega (arith, ap length (n .split), length-append (laid s src) (n .left)) in
+    ap (λ x. stepLines s src at ++ x) (linesOf-append ss ts src (at + length (laid s src)) (n .spelled) ∙ ap (λ e. linesOf ss src (at + length (laid s src)) ++ linesOf ts src e) place)
+    ∙ sym (append-assoc (stepLines s src at) (linesOf ss src (at + length (laid s src))) (linesOf ts src (at + length xs)))
+
 -- ---- plans
 
 plans-none : Plans stop [] [] []
-unfolding lay spell
-plans-none = record { lays = λ src at. refl; shaped = tt; fields = refl; lists = refl }
+unfolding lay spell linesOf lines
+plans-none = record { lays = λ src at. refl; shaped = tt; fields = refl; lists = refl; shows = λ src at p. refl }
 
 -- a record behind another
 plans-then : {l m : Layout} {ps qs ls ms : List Part} {ss ts : List Step} → Plans l ps ls ss → Plans m qs ms ts → Plans (l then m) (ps ++ qs) (ls ++ ms) (ss ++ ts)
@@ -78,6 +94,13 @@ plans-then {l} {m} {ps} {qs} {ls} {ms} {ss} {ts} a b =
       shaped = shaped-then l m ps qs (a .shaped) (b .shaped);
       fields = spansOf-append ss ts ∙ ap (λ x. x ++ spansOf ts) (a .fields) ∙ ap (λ x. spans ps ++ x) (b .fields) ∙ sym (spans-append ps qs);
       lists = listsOf-append ss ts ∙ ap (λ x. x ++ listsOf ts) (a .lists) ∙ ap (λ x. ls ++ x) (b .lists);
+      shows = λ src at p.
+          let (xs, e, q) = next-found (lay l ps src at) _ (sym (lay-then l m ps qs src at (a .shaped)) ∙ p) in
+          let (ys, f, g) = next-found (lay m qs src (at + length xs)) _ q in
+          linesOf-append ss ts src at (sym (a .lays src at) ∙ e)
+          ∙ ap (λ x. x ++ linesOf ts src (at + length xs)) (a .shows src at e)
+          ∙ ap (λ x. lines l ps src at ++ x) (b .shows src (at + length xs) f)
+          ∙ sym (lines-then l m ps qs src at (a .shaped) e);
     }
 
 -- ---- one field, and what follows it
@@ -89,28 +112,37 @@ placed (fixed p) n at = refl
 placed (lengthTo m) n at = refl
 placed (countTo m) n at = refl
 
-number-lays : (b : Bool) (w : Width) (r : Rule) (n : ℕ) (k : ℕ → Layout) {ps ls : List Part} {ss : List Step} → allows r n ≡ b → n < 256 ^ widthOf w → Plans (k n) ps ls ss
-    → (src : List ℕ) (at : ℕ) → lay (number (widthOf w) r k) (num n ∷ ps) src at ≡ spell (pickStep b (Step.Number w n) (Step.Fails (breach r 0 n)) ∷ ss) src at
+number-lays : (b : Bool) (c : Word) (w : Width) (r : Rule) (n : ℕ) (k : ℕ → Layout) {ps ls : List Part} {ss : List Step} → allows r n ≡ b → n < 256 ^ widthOf w → Plans (k n) ps ls ss
+    → (src : List ℕ) (at : ℕ) → lay (number (widthOf w) r k) (num n ∷ ps) src at ≡ spell (pickStep b (Step.Number c w n) (Step.Fails (breach r 0 n)) ∷ ss) src at
 unfolding lay spelt spell spellStep
-number-lays true w r n k {ps} t h rest src at = rw (t, lt-ltb n (256 ^ widthOf w) h, rest .lays src (at + widthOf w), length-digits (widthOf w) n)
-number-lays false w r n k t h rest src at = rw t (ap refused (placed r n at))
+number-lays true c w r n k {ps} t h rest src at = rw (t, lt-ltb n (256 ^ widthOf w) h, rest .lays src (at + widthOf w), length-digits (widthOf w) n)
+number-lays false c w r n k t h rest src at = rw t (ap refused (placed r n at))
 
-number-fields : (b : Bool) (w : Width) (n : ℕ) (f : Refusal) (ss : List Step) → spansOf (pickStep b (Step.Number w n) (Step.Fails f) ∷ ss) ≡ spansOf ss
-number-fields true w n f ss = refl
-number-fields false w n f ss = refl
+number-fields : (b : Bool) (c : Word) (w : Width) (n : ℕ) (f : Refusal) (ss : List Step) → spansOf (pickStep b (Step.Number c w n) (Step.Fails f) ∷ ss) ≡ spansOf ss
+number-fields true c w n f ss = refl
+number-fields false c w n f ss = refl
 
-number-lists : (b : Bool) (w : Width) (n : ℕ) (f : Refusal) (ss : List Step) → listsOf (pickStep b (Step.Number w n) (Step.Fails f) ∷ ss) ≡ listsOf ss
-number-lists true w n f ss = refl
-number-lists false w n f ss = refl
+number-lists : (b : Bool) (c : Word) (w : Width) (n : ℕ) (f : Refusal) (ss : List Step) → listsOf (pickStep b (Step.Number c w n) (Step.Fails f) ∷ ss) ≡ listsOf ss
+number-lists true c w n f ss = refl
+number-lists false c w n f ss = refl
+
+number-shows : (b : Bool) (w : Width) (r : Rule) (n : ℕ) (k : ℕ → Layout) {ps ls : List Part} {ss : List Step} → allows r n ≡ b → Plans (k n) ps ls ss
+    → (src : List ℕ) (at : ℕ) {bs : List ℕ} → lay (number (widthOf w) r k) (num n ∷ ps) src at ≡ found bs
+    → linesOf (pickStep b (Step.Number (wordOf r) w n) (Step.Fails (breach r 0 n)) ∷ ss) src at ≡ lines (number (widthOf w) r k) (num n ∷ ps) src at
+unfolding linesOf lines
+number-shows true w r n k {ps} t rest src at p =
+    rw (word-says r n, length-digits (widthOf w) n) (ap (λ x. line at (widthOf w) (sayNumber r n) ∷ x) (rest .shows src (at + widthOf w) (number-goes ps src at (widthOf w) n r k p .1 .laid)))
+number-shows false w r n k {ps} t rest src at p = absurd (false≢true (sym t ∙ number-goes ps src at (widthOf w) n r k p .0))
 
 plans-number : {ps ls : List Part} {ss : List Step} (w : Width) (r : Rule) (n : ℕ) (k : ℕ → Layout) → n < 256 ^ widthOf w → Plans (k n) ps ls ss
     → Plans (number (widthOf w) r k) (num n ∷ ps) ls (numberStep w r n ∷ ss)
 plans-number {ss = ss} w r n k h a =
     record {
-      lays = number-lays (allows r n) w r n k refl h a;
+      lays = number-lays (allows r n) (wordOf r) w r n k refl h a;
       shaped = (h, λ t. a .shaped);
-      fields = number-fields (allows r n) w n (breach r 0 n) ss ∙ a .fields;
-      lists = number-lists (allows r n) w n (breach r 0 n) ss ∙ a .lists;
+      fields = number-fields (allows r n) (wordOf r) w n (breach r 0 n) ss ∙ a .fields;
+      lists = number-lists (allows r n) (wordOf r) w n (breach r 0 n) ss ∙ a .lists;
+      shows = number-shows (allows r n) w r n k refl a;
     }
 
 -- bytes that are found are as many as the span has
@@ -128,13 +160,16 @@ cut-onto src start len at g b c same size = by (cut src start len at) refl
     by (refused f) e = refl
 
 plans-plain : {l : Layout} {ps ls : List Part} {ss : List Step} (s : Span) → Plans l ps ls ss → Plans (plain (lenOf s) l) (spanPart s ∷ ps) ls (Step.Plain (lenOf s) s ∷ ss)
-unfolding lay spell spellStep
+unfolding lay spell spellStep linesOf lines
 plans-plain {l} {ps} {ls} {ss} s a =
     record {
       lays = λ src at. rw (eq-eqb (lenOf s) (lenOf s) refl) (plain-lays src at);
       shaped = (refl, a .shaped);
       fields = ap (λ x. spanPart s ∷ x) (a .fields);
       lists = a .lists;
+      shows = λ src at p.
+          let (size, same, g) = plain-goes ps src at (lenOf s) (startOf s) (lenOf s) l p in
+          ap (λ n. spanLine at (startOf s) (lenOf s) src ∷ linesOf ss src (at + n)) size ∙ ap (λ x. spanLine at (startOf s) (lenOf s) src ∷ x) (a .shows src (at + lenOf s) (g .laid));
     }
   where
     plain-lays : (src : List ℕ) (at : ℕ) → ahead (cut src (startOf s) (lenOf s) at) (lay l ps src (at + lenOf s)) ≡ onto at (cut src (startOf s) (lenOf s) at) (λ e. spell ss src e)
@@ -146,7 +181,7 @@ plans-plain {l} {ps} {ls} {ss} s a =
 
 plans-list : {l : Layout} {ps ls : List Part} {ss : List Step} (s : Span) → Plans l ps ls ss
     → Plans (counted 16 pcrSelection l) (spanPart s ∷ ps) (spanPart s ∷ ls) (Step.Selections s ∷ ss)
-unfolding lay spell spellStep
+unfolding lay spell spellStep linesOf lines
 plans-list {l} {ps} {ls} {ss} s a =
     record {
       lays = λ src at.
@@ -155,6 +190,10 @@ plans-list {l} {ps} {ls} {ss} s a =
       shaped = a .shaped;
       fields = ap (λ x. spanPart s ∷ x) (a .fields);
       lists = ap (λ x. spanPart s ∷ x) (a .lists);
+      shows = λ src at p.
+          let (size, g) = counted-goes ps src at 16 (startOf s) (lenOf s) pcrSelection l p in
+          let first = stepLines (Step.Selections s) src at in
+          ap (λ n. first ++ linesOf ss src (at + n)) size ∙ ap (λ x. first ++ x) (a .shows src (at + lenOf s) (g .laid));
     }
 
 -- a buffer's length and its bytes
@@ -180,13 +219,20 @@ sized-onto src start len w m at b c same = by (cut src start len at) refl
     by (refused f) e = refl
 
 plans-buffer : {l : Layout} {ps ls : List Part} {ss : List Step} (m : ℕ) (s : Span) → m < 65536 → Plans l ps ls ss → Plans (buffer 2 m l) (spanPart s ∷ ps) ls (Step.Buffer m s ∷ ss)
-unfolding lay spell spellStep
+unfolding lay spell spellStep linesOf lines
 plans-buffer {l} {ps} {ls} {ss} m s h a =
     record {
       lays = λ src at. sized-onto src (startOf s) (lenOf s) 2 m at (λ e. lay l ps src e) (λ e. spell ss src e) (λ e. a .lays src e);
       shaped = ((λ g. omega arith), a .shaped);
       fields = ap (λ x. spanPart s ∷ x) (a .fields);
       lists = a .lists;
+      shows = λ src at p.
+          let (size, g) = buffer-goes ps src at 2 m (startOf s) (lenOf s) l p in
+          let there : at + length (digits 2 (lenOf s) ++ take (lenOf s) (drop (startOf s) src)) ≡ at + (2 + lenOf s) =
+          omega (arith, length-append (digits 2 (lenOf s)) (take (lenOf s) (drop (startOf s) src)), length-digits 2 (lenOf s)) in
+          let place : at + (2 + lenOf s) ≡ at + 2 + lenOf s = omega arith in
+          ap (λ x. line at 2 (aNumber (lenOf s)) ∷ spanLine (at + 2) (startOf s) (lenOf s) src ∷ x)
+          (ap (λ e. linesOf ss src e) there ∙ a .shows src (at + (2 + lenOf s)) (g .laid) ∙ ap (λ e. lines l ps src e) place);
     }
 
 -- ---- unions
@@ -197,6 +243,14 @@ due-lays : (b : Bool) (v h t : ℕ) (body : ℕ → Layout) {ps ls : List Part} 
 unfolding lay spell spellStep
 due-lays true v h t body {ps} e a src at = rw (e, ← eqb-true h t e) (a refl .lays src at)
 due-lays false v h t body e a src at = rw e
+
+due-shows : (b : Bool) (v h t : ℕ) (body : ℕ → Layout) {ps ls : List Part} {ss : List Step} → eqb h t ≡ b → (b ≡ true → Plans (body h) ps ls ss)
+    → (src : List ℕ) (at : ℕ) {bs : List ℕ} → lay (arm v t (body t)) (tag h ∷ ps) src at ≡ found bs → linesOf (unless b (Step.Fails (mismatch 0 v)) ++ ss) src at ≡ lines (arm v t (body t)) (tag h ∷ ps) src at
+unfolding lay lines
+due-shows true v h t body {ps} e a src at p =
+    let same = eqb-true h t e in
+    a refl .shows src at (ap (λ u. lay (body u) ps src at) same ∙ when-found (eqb h t) _ _ p .1) ∙ ap (λ u. lines (body u) ps src at) same
+due-shows false v h t body e a src at p = absurd (false≢true (sym e ∙ when-found (eqb h t) _ _ p .0))
 
 unless-fields : (b : Bool) (f : Refusal) (ss : List Step) → spansOf (unless b (Step.Fails f) ++ ss) ≡ spansOf ss
 unless-fields true f ss = refl
@@ -218,13 +272,14 @@ plans-arm a = record { if-chosen = λ t. a; fields = a .fields; lists = a .lists
 plans-due : {ps ls : List Part} {ss : List Step} (v : ℕ) (c : Choice) (h : ℕ) (body : ℕ → Layout) → Arm c h (body h) ps ls ss
     → Plans (union c body v) (tag h ∷ ps) ls (due v c (isArm c h) ++ ss)
 unfolding lay spell spellStep
-plans-due v Choice.Nothing h body a = record { lays = λ src at. refl; shaped = tt; fields = a .fields; lists = a .lists }
+plans-due v Choice.Nothing h body a = record { lays = λ src at. refl; shaped = tt; fields = a .fields; lists = a .lists; shows = λ src at p. absurd (found-refused p) }
 plans-due {ps} {ss = ss} v (Choice.The t) h body a =
     record {
       lays = due-lays (eqb h t) v h t body refl (a .if-chosen);
       shaped = λ e. rw (← e) (a .if-chosen (eq-eqb h t e) .shaped);
       fields = unless-fields (eqb h t) (mismatch 0 v) ss ∙ a .fields;
       lists = unless-lists (eqb h t) (mismatch 0 v) ss ∙ a .lists;
+      shows = due-shows (eqb h t) v h t body refl (a .if-chosen);
     }
 
 -- a digest is the arm by its length
@@ -326,3 +381,7 @@ module _ {l : Layout} {ps ls : List Part} {k : ℕ} {p r : Plan} (none : steps p
 
   pub adds-lists : listsOf (steps r) ≡ ls
   adds-lists = ap listsOf all-steps ∙ a .plans .lists
+
+  -- and of a record that is written it has the lines
+  pub adds-lines : (src : List ℕ) {bs : List ℕ} → lay l ps src 0 ≡ found bs → linesOf (steps r) src 0 ≡ lines l ps src 0
+  adds-lines src p = ap (λ x. linesOf x src 0) all-steps ∙ a .plans .shows src 0 p

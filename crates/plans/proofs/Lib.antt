@@ -7,3 +7,4 @@ pub mod Loops
 pub mod Putting
 pub mod Finding
 pub mod Items
+pub mod Shown

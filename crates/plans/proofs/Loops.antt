@@ -14,12 +14,13 @@ use Rattle.wire.specs.Writing.{onto, sizeOf}
 use Rattle.wire.proofs.Steps.{found-refused, found-same}
 use Rattle.plans.specs.Steps.{stepsFrom, spell, spellStep}
 use Rattle.plans.specs.Walked.{after}
+use Rattle.plans.specs.declared.step.Word.{Word}
 use Rattle.plans.specs.declared.step.Step.{Step}
 use Rattle.plans.specs.declared.plan.Cell.{Cell}
 
 -- what an array of cells is read as past its end
 abbrev pub blank : Cell
-blank = record { step = Step.Number Width.One 0 }
+blank = record { step = Step.Number Word.Code Width.One 0 }
 
 -- the steps from the i-th on
 abbrev pub from : ℕ → List Cell → ℕ → List Step

@@ -22,8 +22,9 @@ use Rattle.wire.proofs.Steps.{found-refused, found-same, next-found, when-found
 use Rattle.wire.proofs.Then.{whole-same}
 use Rattle.wire.proofs.Written.{spelt-found, moved-found}
 use Rattle.kinds.specs.Kinds.{pcrSelection}
-use Rattle.plans.specs.Steps.{spell, spellStep}
-use Rattle.plans.specs.Walked.{laid, Inside, Legal, Puts}
+use Rattle.plans.specs.Steps.{spell, spellStep, laid}
+use Rattle.plans.specs.Walked.{Inside, Legal, Puts}
+use Rattle.plans.specs.declared.step.Word.{Word}
 use Rattle.plans.specs.declared.step.Step.{Step}
 use Rattle.plans.specs.declared.plan.Cell.{Cell}
 use Rattle.plans.proofs.Loops.{blank, from, from-cons, from-none}
@@ -87,7 +88,7 @@ cut-is src start len at p =
 -- a step that is judged well is laid as it is spelled
 step-is : (s : Step) (src : List ℕ) (at : ℕ) {xs : List ℕ} → spellStep s src at ≡ found xs → (xs ≡ laid s src) × Inside s src
 unfolding spellStep
-step-is (Step.Number w n) src at p = (sym (found-same p), tt)
+step-is (Step.Number k w n) src at p = (sym (found-same p), tt)
 step-is (Step.Plain n s) src at p = cut-is src (startOf s) (lenOf s) at (when-found (eqb (lenOf s) n) _ _ p .1)
 step-is (Step.Buffer m s) src at p =
     let (xs, e, q) = next-found (cut src (startOf s) (lenOf s) at) _ p in
@@ -100,13 +101,13 @@ step-is (Step.Selections s) src at p =
     (whole-same 16 pcrSelection xs (moved-found at (whole 16 pcrSelection xs) q) ∙ same, inside)
 step-is (Step.Fails f) src at p = absurd (found-refused p)
 
-record Next (s : Step) (ss : List Step) (src : List ℕ) (at : ℕ) (rest : List ℕ) : Type 0 where
+pub record Next (s : Step) (ss : List Step) (src : List ℕ) (at : ℕ) (rest : List ℕ) : Type 0 where
   pub inside : Inside s src
   pub left : List ℕ
   pub split : rest ≡ laid s src ++ left
   pub spelled : spell ss src (at + length (laid s src)) ≡ found left
 
-next-step : (s : Step) (ss : List Step) (src : List ℕ) (at : ℕ) {rest : List ℕ} → spell (s ∷ ss) src at ≡ found rest → Next s ss src at rest
+pub next-step : (s : Step) (ss : List Step) (src : List ℕ) (at : ℕ) {rest : List ℕ} → spell (s ∷ ss) src at ≡ found rest → Next s ss src at rest
 unfolding spell
 next-step s ss src at p =
     let (xs, e, q) = next-found (spellStep s src at) _ p in
@@ -126,8 +127,8 @@ span-room : (t : Span) (src : List ℕ) (at k : ℕ) → startOf t + lenOf t ≤
 span-room t src at k i h = (i, omega (arith, cut-length src (startOf t) (lenOf t) 0 i))
 
 module _ (src : List ℕ) (at k : ℕ) {s : Step} (asks : Asks s src at k) where
-  pub number-room : {w : Width} {n : ℕ} → s ≡ Step.Number w n → at + widthOf w ≤ k
-  number-room {w} {n} e = let (i, h) : Asks (Step.Number w n) src at k = subst (λ x. Asks x src at k) e asks in omega (arith, length-digits (widthOf w) n)
+  pub number-room : {c : Word} {w : Width} {n : ℕ} → s ≡ Step.Number c w n → at + widthOf w ≤ k
+  number-room {c} {w} {n} e = let (i, h) : Asks (Step.Number c w n) src at k = subst (λ x. Asks x src at k) e asks in omega (arith, length-digits (widthOf w) n)
 
   pub plain-room : {n : ℕ} {t : Span} → s ≡ Step.Plain n t → Placed t src at k
   plain-room {n} {t} e = let (i, h) : Asks (Step.Plain n t) src at k = subst (λ x. Asks x src at k) e asks in span-room t src at k i h

@@ -3,19 +3,21 @@ use Prim.Native.Nat.{ℕ, zero, suc, _+_, _^_, _≤_, _<_}
 use mathlib.Core.Bool.{Bool, true, false}
 use mathlib.Core.Path.{_≡_}
 use mathlib.Core.List.{List, [], _∷_, _++_}
-use lib.ListN.{length, take}
+use lib.ListN.{length, take, drop}
 use lib.Dec.{eqb}
 use Rattle.wire.specs.declared.choice.Choice.{Choice}
 use Rattle.wire.specs.declared.width.Width.{Width}
 use Rattle.wire.specs.Answers.{widthOf, startOf, lenOf, spanPart}
 use Rattle.wire.specs.Bytes.{digits}
 use Rattle.wire.specs.Faults.{refusal, noSuchArm, mismatch}
-use Rattle.wire.specs.Layout.{Rule, allows, breach, lengthTo, Layout}
-use Rattle.wire.specs.Reading.{Part, Ans, found, refused, next, when}
+use Rattle.wire.specs.Layout.{Rule, free, listed, fixed, lengthTo, countTo, allows, breach, Layout}
+use Rattle.wire.specs.Reading.{Part, Ans, found, refused, next, when, read}
 use Rattle.wire.specs.Writing.{cut, spelt, whole, moved, ahead, onto, lay, odd, spans}
 use Rattle.wire.specs.Unwritten.{Shaped}
 use Rattle.kinds.specs.Kinds.{pcrSelection}
+use Rattle.plans.specs.declared.step.Word.{Word}
 use Rattle.plans.specs.declared.step.Step.{Step}
+use Rattle.plans.specs.Lines.{Says, aCode, aNumber, Line, line, spanLine, listLines, lines}
 use Rattle.plans.specs.declared.plan.Cell.{Cell}
 use Rattle.plans.specs.declared.plan.Plan.{Plan}
 
@@ -43,7 +45,7 @@ pub record Pushed (p : Plan) (ss : List Step) (r : Plan) : Type 0 where
 
 -- the bytes of a step, or what is wrong with it
 unfoldable pub spellStep : Step → (src : List ℕ) (at : ℕ) → Ans (List ℕ)
-spellStep (Step.Number w n) src at = found (digits (widthOf w) n)
+spellStep (Step.Number k w n) src at = found (digits (widthOf w) n)
 spellStep (Step.Plain n s) src at = when (eqb (lenOf s) n) (cut src (startOf s) (lenOf s) at) (odd at)
 spellStep (Step.Buffer m s) src at =
     next (cut src (startOf s) (lenOf s) at)
@@ -58,7 +60,7 @@ spell (s ∷ ss) src at = onto at (spellStep s src at) (λ e. spell ss src e)
 -- the byte fields of steps
 abbrev pub spansOf : List Step → List Part
 spansOf [] = []
-spansOf (Step.Number w n ∷ ss) = spansOf ss
+spansOf (Step.Number k w n ∷ ss) = spansOf ss
 spansOf (Step.Plain n s ∷ ss) = spanPart s ∷ spansOf ss
 spansOf (Step.Buffer m s ∷ ss) = spanPart s ∷ spansOf ss
 spansOf (Step.Selections s ∷ ss) = spanPart s ∷ spansOf ss
@@ -67,11 +69,37 @@ spansOf (Step.Fails f ∷ ss) = spansOf ss
 -- the lists of steps
 abbrev pub listsOf : List Step → List Part
 listsOf [] = []
-listsOf (Step.Number w n ∷ ss) = listsOf ss
+listsOf (Step.Number k w n ∷ ss) = listsOf ss
 listsOf (Step.Plain n s ∷ ss) = listsOf ss
 listsOf (Step.Buffer m s ∷ ss) = listsOf ss
 listsOf (Step.Selections s ∷ ss) = spanPart s ∷ listsOf ss
 listsOf (Step.Fails f ∷ ss) = listsOf ss
+
+-- the bytes of a step, if it was judged
+abbrev pub laid : Step → List ℕ → List ℕ
+laid (Step.Number k w n) src = digits (widthOf w) n
+laid (Step.Plain n s) src = take (lenOf s) (drop (startOf s) src)
+laid (Step.Buffer m s) src = digits 2 (lenOf s) ++ take (lenOf s) (drop (startOf s) src)
+laid (Step.Selections s) src = take (lenOf s) (drop (startOf s) src)
+laid (Step.Fails f) src = []
+
+-- a number by its word
+abbrev pub sayWord : Word → ℕ → Says
+sayWord Word.Code n = aCode n
+sayWord Word.Number n = aNumber n
+
+-- the lines of a step, and of steps one behind the other
+abbrev pub stepLines : Step → (src : List ℕ) (at : ℕ) → List Line
+stepLines (Step.Number k w n) src at = line at (widthOf w) (sayWord k n) ∷ []
+stepLines (Step.Plain n s) src at = spanLine at (startOf s) (lenOf s) src ∷ []
+stepLines (Step.Buffer m s) src at = line at 2 (aNumber (lenOf s)) ∷ spanLine (at + 2) (startOf s) (lenOf s) src ∷ []
+stepLines (Step.Selections s) src at =
+    listLines (λ qs xs a. lines pcrSelection qs xs a) (λ s a. read pcrSelection s a) (take (lenOf s) (drop (startOf s) src)) at
+stepLines (Step.Fails f) src at = []
+
+unfoldable pub linesOf : List Step → (src : List ℕ) (at : ℕ) → List Line
+linesOf [] src at = []
+linesOf (s ∷ ss) src at = stepLines s src at ++ linesOf ss src (at + length (laid s src))
 
 -- ---- plans of a record
 
@@ -82,6 +110,7 @@ pub record Plans (l : Layout) (ps ls : List Part) (ss : List Step) : Type 0 wher
   pub shaped : Shaped l ps
   pub fields : spansOf ss ≡ spans ps
   pub lists : listsOf ss ≡ ls
+  pub shows : (src : List ℕ) (at : ℕ) {bs : List ℕ} → lay l ps src at ≡ found bs → linesOf ss src at ≡ lines l ps src at
 
 -- the plan r is p with at most k steps behind it, which are a plan of the parts ps with the lists ls
 pub record Adds (l : Layout) (ps ls : List Part) (k : ℕ) (p r : Plan) : Type 0 where
@@ -96,9 +125,17 @@ abbrev pub pickStep : Bool → Step → Step → Step
 pickStep true s t = s
 pickStep false s t = t
 
+-- what a listing calls a number under that rule: one that UnknownCode can refuse is a code
+abbrev pub wordOf : Rule → Word
+wordOf free = Word.Number
+wordOf (listed p) = Word.Code
+wordOf (fixed p) = Word.Number
+wordOf (lengthTo m) = Word.Number
+wordOf (countTo m) = Word.Number
+
 -- the step of a number: its digits, if its rule allows it
 abbrev pub numberStep : Width → Rule → ℕ → Step
-numberStep w r n = pickStep (allows r n) (Step.Number w n) (Step.Fails (breach r 0 n))
+numberStep w r n = pickStep (allows r n) (Step.Number (wordOf r) w n) (Step.Fails (breach r 0 n))
 
 -- the plan r is p with a number behind it that its width holds
 pub record Numbered (w : Width) (rule : Rule) (n : ℕ) (p r : Plan) : Type 0 where

@@ -24,17 +24,9 @@ abbrev pub Near : Measure → (at : ℕ) → Type 0
 Near (Measure.Size e) at = e ≤ at + 0x10001
 Near (Measure.No f) at = Unit {0}
 
--- a step's bytes, if it was judged
-abbrev pub laid : Step → List ℕ → List ℕ
-laid (Step.Number w n) src = digits (widthOf w) n
-laid (Step.Plain n s) src = take (lenOf s) (drop (startOf s) src)
-laid (Step.Buffer m s) src = digits 2 (lenOf s) ++ take (lenOf s) (drop (startOf s) src)
-laid (Step.Selections s) src = take (lenOf s) (drop (startOf s) src)
-laid (Step.Fails f) src = []
-
 -- the span of a step lies in the source
 abbrev pub Inside : Step → List ℕ → Type 0
-Inside (Step.Number w n) src = Unit {0}
+Inside (Step.Number k w n) src = Unit {0}
 Inside (Step.Plain n s) src = startOf s + lenOf s ≤ length src
 Inside (Step.Buffer m s) src = startOf s + lenOf s ≤ length src
 Inside (Step.Selections s) src = startOf s + lenOf s ≤ length src

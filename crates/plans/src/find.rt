@@ -23,7 +23,7 @@ impl Step {
         ensures { λ r. ⌜ ((ss : List Step) → spansOf (self ∷ ss) ≡ placeAhead r (spansOf ss)) ⌝ }
     {
         match self {
-            Step::Number(_, _) => Place::Nowhere,
+            Step::Number(_, _, _) => Place::Nowhere,
             Step::Plain(_, span) => Place::At(span),
             Step::Buffer(_, span) => Place::At(span),
             Step::Selections(span) => Place::At(span),

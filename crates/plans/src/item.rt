@@ -31,7 +31,7 @@ impl Step {
         ensures { λ r. ⌜ ((ss : List Step) → listsOf (self ∷ ss) ≡ placeAhead r (listsOf ss)) ⌝ }
     {
         match self {
-            Step::Number(_, _) => Place::Nowhere,
+            Step::Number(_, _, _) => Place::Nowhere,
             Step::Plain(_, _) => Place::Nowhere,
             Step::Buffer(_, _) => Place::Nowhere,
             Step::Selections(span) => Place::At(span),

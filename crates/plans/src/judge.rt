@@ -80,7 +80,7 @@ impl Step {
         ensures { λ r. ⌜ (measureAnswer r ≡ after at (spellStep self (now (src .entry)) at)) × Near r at ⌝ }
     {
         match self {
-            Step::Number(width, _) => {
+            Step::Number(_, width, _) => {
                 let end = at + width.bytes();
                 Measure::Size(end)
             }

@@ -1,5 +1,6 @@
 // A plan, by value, and what is pushed onto it. 24 steps hold the longest record: a public area with an ECC key and every arm wrong.
 use crate::step::Step;
+use crate::step::Word;
 use kinds::codes::TpmAlgId;
 use kinds::codes::TpmEccCurve;
 use kinds::codes::TpmSt;
@@ -57,7 +58,7 @@ impl Plan {
         ensures { λ r. ⌜ (steps r ≡ []) × Room 24 r ⌝ }
     {
         let c = Cell {
-            step: Step::Number(Width::One, 0),
+            step: Step::Number(Word::Code, Width::One, 0),
         };
         Plan {
             count: 0,
@@ -76,12 +77,12 @@ impl Plan {
     }
 
     // A number, or the refusal of it.
-    fn number(self, good: bool, w: Width, n: u64, f: Refusal) -> Plan
+    fn number(self, good: bool, k: Word, w: Width, n: u64, f: Refusal) -> Plan
         requires { ⌜ Room 1 self ⌝ }
-        ensures { λ r. ⌜ Pushed self (pickStep good (Step.Number w n) (Step.Fails f) ∷ []) r ⌝ }
+        ensures { λ r. ⌜ Pushed self (pickStep good (Step.Number k w n) (Step.Fails f) ∷ []) r ⌝ }
     {
         if good {
-            self.push(Step::Number(w, n))
+            self.push(Step::Number(k, w, n))
         } else {
             self.push(Step::Fails(f))
         }
@@ -92,7 +93,7 @@ impl Plan {
         ensures { λ r. ⌜ Numbered Two alg (a .0) self r ⌝ }
     {
         let n = wide(a.0);
-        self.number(a.is_listed(), Width::Two, n, Refusal::unknown_code(0, n))
+        self.number(a.is_listed(), Word::Code, Width::Two, n, Refusal::unknown_code(0, n))
     }
 
     pub fn curve(self, c: TpmEccCurve) -> Plan
@@ -100,7 +101,7 @@ impl Plan {
         ensures { λ r. ⌜ Numbered Two curve (c .0) self r ⌝ }
     {
         let n = wide(c.0);
-        self.number(c.is_listed(), Width::Two, n, Refusal::unknown_code(0, n))
+        self.number(c.is_listed(), Word::Code, Width::Two, n, Refusal::unknown_code(0, n))
     }
 
     pub fn attestation(self, t: TpmSt) -> Plan
@@ -108,7 +109,7 @@ impl Plan {
         ensures { λ r. ⌜ Numbered Two attestation (t .0) self r ⌝ }
     {
         let n = wide(t.0);
-        self.number(t.is_listed(), Width::Two, n, Refusal::unknown_code(0, n))
+        self.number(t.is_listed(), Word::Code, Width::Two, n, Refusal::unknown_code(0, n))
     }
 
     pub fn yes_no(self, b: u8) -> Plan
@@ -116,7 +117,7 @@ impl Plan {
         ensures { λ r. ⌜ Numbered One yesNo b self r ⌝ }
     {
         let n = byte(b);
-        self.number(n <= 1, Width::One, n, Refusal::bad_value(0, n))
+        self.number(n <= 1, Word::Number, Width::One, n, Refusal::bad_value(0, n))
     }
 
     pub fn magic(self, m: u32) -> Plan
@@ -124,28 +125,28 @@ impl Plan {
         ensures { λ r. ⌜ Numbered Four magic m self r ⌝ }
     {
         let n = wider(m);
-        self.number(n == 0xFF544347, Width::Four, n, Refusal::bad_value(0, n))
+        self.number(n == 0xFF544347, Word::Number, Width::Four, n, Refusal::bad_value(0, n))
     }
 
     pub fn uint16(self, n: u16) -> Plan
         requires { ⌜ Room 1 self ⌝ }
         ensures { λ r. ⌜ Numbered Two free n self r ⌝ }
     {
-        self.push(Step::Number(Width::Two, wide(n)))
+        self.push(Step::Number(Word::Number, Width::Two, wide(n)))
     }
 
     pub fn uint32(self, n: u32) -> Plan
         requires { ⌜ Room 1 self ⌝ }
         ensures { λ r. ⌜ Numbered Four free n self r ⌝ }
     {
-        self.push(Step::Number(Width::Four, wider(n)))
+        self.push(Step::Number(Word::Number, Width::Four, wider(n)))
     }
 
     pub fn uint64(self, n: u64) -> Plan
         requires { ⌜ Room 1 self ⌝ }
         ensures { λ r. ⌜ Numbered Eight free n self r ⌝ }
     {
-        self.push(Step::Number(Width::Eight, n))
+        self.push(Step::Number(Word::Number, Width::Eight, n))
     }
 
     // A length of two bytes and the bytes of a span.

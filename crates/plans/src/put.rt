@@ -12,8 +12,8 @@ ghost use lib.ListN.{length, take, drop};
 ghost use Rattle.wire.specs.Answers.{widthOf, startOf, lenOf};
 ghost use Rattle.wire.specs.Bytes.{digits};
 ghost use Rattle.wire.specs.Writing.{partOf};
-ghost use Rattle.plans.specs.Steps.{steps, spell, Room};
-ghost use Rattle.plans.specs.Walked.{laid, Inside, Legal, Puts};
+ghost use Rattle.plans.specs.Steps.{steps, spell, Room, laid};
+ghost use Rattle.plans.specs.Walked.{Inside, Legal, Puts};
 
 // A number at the place `at` of out, and the place behind it.
 fn put_digits(n: u64, w: Width, out: &mut [u8], at: usize) -> usize
@@ -40,7 +40,7 @@ impl Step {
         ensures { λ r. ⌜ Puts at (laid self (now (src .entry))) (now (out .entry)) r (now (out .exit)) ⌝ }
     {
         match self {
-            Step::Number(width, n) => put_digits(n, width, out, at),
+            Step::Number(_, width, n) => put_digits(n, width, out, at),
             Step::Plain(_, span) => put_part(span, src, out, at),
             Step::Buffer(_, span) => {
                 let len = span.len() as u64;

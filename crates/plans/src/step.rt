@@ -3,9 +3,15 @@ use wire::fault::Refusal;
 use wire::span::Span;
 use wire::width::Width;
 
+// What a listing calls a number.
+pub enum Word {
+    Code,
+    Number,
+}
+
 pub enum Step {
     // a number that its field takes
-    Number(Width, u64),
+    Number(Word, Width, u64),
     // so many bytes as they stand
     Plain(u16, Span),
     // a length of two bytes, at most the limit, and the bytes

@@ -1,6 +1,6 @@
 -- The magic is tested as its field tests it. Assumes nothing.
 use borrow.Author.Needs.{needs}
-use mathlib.Core.Path.{ap}
+use mathlib.Core.Path.{refl, ap}
 use lib.Dec.{eqb}
 use Rattle.wire.specs.declared.width.Width.{Width}
 use Rattle.kinds.specs.Codes.{magic}
@@ -18,7 +18,7 @@ number-requires : tie.Need-number-requires
 number-requires c κs = search needs
 
 returns : tie.Need-returns
-returns c = numbered Width.Four magic (c .before .before .wider .ensures .0) (ap (λ n. eqb n 0xFF544347) (c .before .before .wider .ensures .0)) (c .before .bad-value .ensures) (c .before .before .wider .ensures .1) (c .number .ensures)
+returns c = numbered Width.Four magic (c .before .before .wider .ensures .0) refl (ap (λ n. eqb n 0xFF544347) (c .before .before .wider .ensures .0)) (c .before .bad-value .ensures) (c .before .before .wider .ensures .1) (c .number .ensures)
 
 pub magic-spec : {M : Type 1} → statement M
 magic-spec = tie.close (tie.spec wider-requires bad-value-requires number-requires returns)

@@ -1,6 +1,6 @@
 -- The byte is tested as its field tests it. Assumes nothing.
 use borrow.Author.Needs.{needs}
-use mathlib.Core.Path.{ap, _∙_}
+use mathlib.Core.Path.{refl, ap, _∙_}
 use lib.Dec.{leb}
 use Rattle.wire.specs.declared.width.Width.{Width}
 use Rattle.kinds.specs.Codes.{yesNo}
@@ -18,7 +18,7 @@ number-requires : tie.Need-number-requires
 number-requires c κs = search needs
 
 returns : tie.Need-returns
-returns c = numbered Width.One yesNo (c .before .before .byte .ensures .0) (ap (λ n. leb n 1) (c .before .before .byte .ensures .0) ∙ yes-or-no (c .before .before .before .args .b)) (c .before .bad-value .ensures) (c .before .before .byte .ensures .1) (c .number .ensures)
+returns c = numbered Width.One yesNo (c .before .before .byte .ensures .0) refl (ap (λ n. leb n 1) (c .before .before .byte .ensures .0) ∙ yes-or-no (c .before .before .before .args .b)) (c .before .bad-value .ensures) (c .before .before .byte .ensures .1) (c .number .ensures)
 
 pub yes-no-spec : {M : Type 1} → statement M
 yes-no-spec = tie.close (tie.spec byte-requires bad-value-requires number-requires returns)

@@ -12,7 +12,7 @@ bytes-requires : tie.Need-bytes-requires
 bytes-requires c κs = search needs
 
 add-end : tie.Need-add-end
-add-end c = omega (arith, c .bytes .ensures, width-near (c .before .before .self .given .0 .0))
+add-end c = omega (arith, c .bytes .ensures, width-near (c .before .before .self .given .0 .1 .0))
 
 enum-known-self-2 : tie.Need-enum-known-self-2
 enum-known-self-2 c = search needs
@@ -39,7 +39,7 @@ placed-at-requires : tie.Need-placed-at-requires
 placed-at-requires c κs = search needs
 
 returns : tie.Need-returns
-returns c = rw (c .before .before .self .given .1) (number-good _ _ _ _ (c .bytes .ensures), omega (arith, c .bytes .ensures, width-near (c .before .before .self .given .0 .0)))
+returns c = rw (c .before .before .self .given .1) (number-good _ _ _ _ _ (c .bytes .ensures), omega (arith, c .bytes .ensures, width-near (c .before .before .self .given .0 .1 .0)))
 
 returns-2 : tie.Need-returns-2
 returns-2 c = rw (c .before .before .self2 .given .1) (c .judge-plain .ensures)
