@@ -3,7 +3,7 @@ use Prim.Native.Nat.{ℕ, zero, suc, _+_, _-_, _≤_, _<_}
 use native.Mathlib.Omega.{arith}
 use mathlib.Core.Path.{_≡_, refl, sym, ap, _∙_}
 use mathlib.Core.Bool.{true, false}
-use mathlib.Core.List.{List, [], _∷_, _++_}
+use mathlib.Core.List.{List, _∷_, _++_}
 use lib.ListN.{length, drop, getD}
 use lib.Dec.{leb}
 use borrow.Author.Tests.{le-leb, lt-leb}
@@ -11,7 +11,7 @@ use Rattle.wire.specs.declared.fault.Refusal.{Refusal}
 use Rattle.wire.specs.declared.span.Span.{Span}
 use Rattle.wire.specs.Answers.{startOf, lenOf, spanPart}
 use Rattle.wire.specs.Faults.{noField, noRoom}
-use Rattle.wire.specs.Reading.{Part, span, Ans, found, refused}
+use Rattle.wire.specs.Reading.{Part, Ans, found, refused}
 use Rattle.wire.specs.Writing.{cut, written, filled, pickField, partOf, sizeOf}
 use Rattle.wire.proofs.Steps.{found-refused, found-same}
 use Rattle.plans.specs.Steps.{spansOf}

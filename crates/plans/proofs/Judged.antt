@@ -1,11 +1,9 @@
 -- What a step's tests say of what it spells. Assumes nothing.
-use Prim.Native.Nat.{ℕ, zero, suc, _+_, _-_, _^_, _<_, _≤_}
+use Prim.Native.Nat.{ℕ, _+_, _-_, _<_, _≤_}
 use native.Mathlib.Omega.{arith}
-use mathlib.Core.Path.{_≡_, refl, sym, ap, _∙_}
-use mathlib.Core.Bool.{Bool, true, false}
-use mathlib.Core.List.{List, [], _∷_, _++_}
-use lib.ListN.{length, take, drop, length-append}
-use lib.Dec.{leb, ltb, eqb}
+use mathlib.Core.Path.{_≡_, sym, ap, _∙_}
+use mathlib.Core.List.{List, _++_}
+use lib.ListN.{length, length-append}
 use borrow.Author.Tests.{le-leb, lt-leb, lt-ltb, eq-eqb, ne-eqb}
 use Rattle.wire.specs.declared.fault.Refusal.{Refusal}
 use Rattle.wire.specs.declared.span.Span.{Span}
@@ -13,11 +11,10 @@ use Rattle.wire.specs.declared.width.Width.{Width}
 use Rattle.wire.specs.Answers.{widthOf, startOf, lenOf}
 use Rattle.wire.specs.Bytes.{digits}
 use Rattle.wire.specs.Faults.{refusal, mismatch, tooLong, trailing}
-use Rattle.wire.specs.Layout.{lengthTo}
-use Rattle.wire.specs.Reading.{Ans, found, refused, next, when, list, read}
-use Rattle.wire.specs.Writing.{cut, spelt, whole, further, ahead, partOf, sizeOf}
+use Rattle.wire.specs.Reading.{found, refused, list, read}
+use Rattle.wire.specs.Writing.{cut, spelt, whole, further, partOf, sizeOf}
 use Rattle.wire.proofs.Digits.{length-digits}
-use Rattle.wire.proofs.Steps.{found-refused, found-same}
+use Rattle.wire.proofs.Steps.{found-same}
 use Rattle.wire.proofs.Cuts.{sized-part, unsized}
 use Rattle.wire.proofs.Written.{cut-found}
 use Rattle.kinds.specs.Kinds.{pcrSelection}

@@ -3,22 +3,20 @@ use Prim.Native.Nat.{ℕ, zero, suc, _+_, _^_, _≤_, _<_}
 use native.Mathlib.Omega.{arith}
 use mathlib.Core.Path.{_≡_, refl, sym, ap, _∙_}
 use mathlib.Core.Bool.{Bool, true, false, false≢true}
-use mathlib.Core.List.{List, [], _∷_, _++_, append-assoc, append-nil}
+use mathlib.Core.List.{List, [], _∷_, _++_, append-assoc}
 use lib.ListN.{length, length-append}
-use lib.Dec.{eqb, ltb}
-use borrow.Author.Tests.{eq-eqb, ne-eqb, eqb-true, eqb-false, lt-ltb}
+use lib.Dec.{eqb}
+use borrow.Author.Tests.{eq-eqb, eqb-true, lt-ltb}
 use Rattle.wire.specs.declared.choice.Choice.{Choice}
 use Rattle.wire.specs.declared.fault.Refusal.{Refusal}
 use Rattle.wire.specs.declared.span.Span.{Span}
 use Rattle.wire.specs.declared.width.Width.{Width}
 use Rattle.wire.specs.Answers.{widthOf, startOf, lenOf, spanPart}
-use Rattle.wire.specs.Bytes.{digits}
 use Rattle.wire.specs.Faults.{refusal, mismatch}
 use Rattle.wire.specs.Layout.{Rule, free, listed, fixed, lengthTo, countTo, allows, breach, Layout, stop, arm, number, plain, buffer, counted, _then_}
-use Rattle.wire.specs.Reading.{Part, num, tag, span, Ans, found, refused, next, when}
-use Rattle.wire.specs.Writing.{cut, spelt, whole, moved, ahead, onto, lay, spans, pickField, fieldOf, itemOf}
+use Rattle.wire.specs.Reading.{Part, num, tag, span, Ans, found, refused, next}
+use Rattle.wire.specs.Writing.{cut, spelt, whole, moved, ahead, onto, lay, spans}
 use Rattle.wire.specs.Unions.{union, isArm}
-use Rattle.wire.specs.Unwritten.{Shaped}
 use Rattle.wire.proofs.Digits.{length-digits}
 use Rattle.wire.proofs.Then.{onto-none, onto-onto, lay-then, shaped-then, whole-same}
 use Rattle.wire.proofs.Written.{spelt-found, cut-found, moved-found}

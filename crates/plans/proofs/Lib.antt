@@ -6,3 +6,4 @@ pub mod Judged
 pub mod Loops
 pub mod Putting
 pub mod Finding
+pub mod Items

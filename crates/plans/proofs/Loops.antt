@@ -1,5 +1,5 @@
 -- What the loops over a plan's steps pass, and what is left. Assumes nothing.
-use Prim.Native.Nat.{ℕ, zero, suc, _+_, _-_, _≤_, _<_}
+use Prim.Native.Nat.{ℕ, _+_, _-_, _≤_, _<_}
 use native.Mathlib.Numerals.{add-one}
 use native.Mathlib.Nat.{add-assoc, zero-add}
 use native.Mathlib.Omega.{arith}
@@ -11,7 +11,7 @@ use Rattle.wire.specs.declared.fault.Refusal.{Refusal}
 use Rattle.wire.specs.declared.width.Width.{Width}
 use Rattle.wire.specs.Reading.{Ans, found, refused, next}
 use Rattle.wire.specs.Writing.{onto, sizeOf}
-use Rattle.wire.proofs.Steps.{found-refused, found-same, refused-same}
+use Rattle.wire.proofs.Steps.{found-refused, found-same}
 use Rattle.plans.specs.Steps.{stepsFrom, spell, spellStep}
 use Rattle.plans.specs.Walked.{after}
 use Rattle.plans.specs.declared.step.Step.{Step}

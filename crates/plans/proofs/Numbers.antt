@@ -1,9 +1,9 @@
 -- A number that is pushed: its digits, if its field takes it, and else why not. Assumes nothing.
 use Prim.Native.Nat.{ℕ, zero, suc, _^_, _<_}
 use native.Mathlib.Omega.{arith}
-use mathlib.Core.Path.{_≡_, refl, sym, ap, _∙_}
-use mathlib.Core.Bool.{Bool, true, false}
-use mathlib.Core.List.{List, [], _∷_}
+use mathlib.Core.Path.{_≡_, refl}
+use mathlib.Core.Bool.{Bool}
+use mathlib.Core.List.{[], _∷_}
 use lib.Dec.{leb}
 use borrow.Author.Tests.{lt-leb, ne-eqb}
 use Rattle.wire.specs.declared.fault.Refusal.{Refusal}

@@ -1,10 +1,10 @@
 -- A step that is pushed stands behind those that were there. Assumes nothing.
-use Prim.Native.Nat.{ℕ, zero, suc, _+_, _-_, _≤_, _<_}
+use Prim.Native.Nat.{ℕ, zero, suc, _+_, _-_, _<_}
 use native.Mathlib.Numerals.{add-one}
 use native.Mathlib.Omega.{arith}
 use mathlib.Core.Path.{_≡_, refl, ap, sym, _∙_}
 use mathlib.Core.List.{List, [], _∷_, _++_, append-assoc, append-nil}
-use lib.ListN.{length, take, set, length-set, length-append}
+use lib.ListN.{length, set, length-set, length-append}
 use lib.Seq.{take-suc-set}
 use Rattle.wire.specs.declared.choice.Choice.{Choice}
 use Rattle.plans.specs.Steps.{stepsFrom, steps, Room, Pushed, dueSize}

@@ -1,9 +1,9 @@
 -- Bytes put one behind the other: what was put, and what is left to put. Assumes nothing.
-use Prim.Native.Nat.{ℕ, zero, suc, _+_, _-_, _^_, _≤_, _<_}
+use Prim.Native.Nat.{ℕ, _+_, _-_, _≤_, _<_}
 use native.Mathlib.Nat.{zero-add}
 use native.Mathlib.Omega.{arith}
 use mathlib.Core.Path.{_≡_, refl, sym, ap, _∙_, subst}
-use mathlib.Core.Bool.{Bool, true, false}
+use mathlib.Core.Bool.{true}
 use mathlib.Core.List.{List, [], _∷_, _++_, append-assoc, append-nil}
 use lib.ListN.{length, take, drop, getD, length-append, length-drop, take-append-drop}
 use lib.Seq.{take-at, drop-at, drop-drop, length-take-le}
@@ -14,8 +14,8 @@ use Rattle.wire.specs.declared.width.Width.{Width}
 use Rattle.wire.specs.Answers.{widthOf, startOf, lenOf}
 use Rattle.wire.specs.Bytes.{digits}
 use Rattle.wire.specs.Layout.{lengthTo}
-use Rattle.wire.specs.Reading.{Ans, found, refused, next, when}
-use Rattle.wire.specs.Writing.{cut, spelt, whole, moved, ahead, filled, partOf}
+use Rattle.wire.specs.Reading.{found, next}
+use Rattle.wire.specs.Writing.{cut, spelt, whole, filled, partOf}
 use Rattle.wire.proofs.Cuts.{cut-length}
 use Rattle.wire.proofs.Digits.{length-digits}
 use Rattle.wire.proofs.Steps.{found-refused, found-same, next-found, when-found}

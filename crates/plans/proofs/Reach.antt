@@ -1,16 +1,16 @@
 -- How far a selection list reaches: neither its end nor the place of a refusal lies beyond the greatest list. Assumes nothing.
 use Prim.Native.Nat.{ℕ, zero, suc, _+_, _-_, _*_, _≤_}
 use native.Mathlib.Omega.{arith}
-use mathlib.Core.Path.{_≡_, refl, sym, ap, _∙_}
+use mathlib.Core.Path.{_≡_, refl, sym}
 use mathlib.Core.Bool.{Bool, true, false}
-use mathlib.Core.List.{List, [], _∷_}
+use mathlib.Core.List.{List}
 use lib.ListN.{length, take, drop}
 use lib.Dec.{leb}
 use borrow.Author.Tests.{leb-true}
 use Rattle.wire.specs.declared.fault.Refusal.{Refusal}
 use Rattle.wire.specs.Bytes.{Bytes, be}
 use Rattle.wire.specs.Faults.{short}
-use Rattle.wire.specs.Layout.{Rule, free, listed, fixed, lengthTo, countTo, allows, breach, Layout, stop, buffer}
+use Rattle.wire.specs.Layout.{Rule, free, listed, fixed, lengthTo, countTo, allows, breach, stop, buffer}
 use Rattle.wire.specs.Reading.{Part, num, Ans, found, refused, next, when, also, left, Parsed, piece, field, walk, list, read}
 use Rattle.wire.specs.Writing.{cut, partOf}
 use Rattle.wire.proofs.Sound.{list-sound, read-sound}

@@ -3,11 +3,9 @@ use Prim.Native.Nat.{ℕ, zero, suc, _+_, _^_, _≤_, _<_}
 use mathlib.Core.Bool.{Bool, true, false}
 use mathlib.Core.Path.{_≡_}
 use mathlib.Core.List.{List, [], _∷_, _++_}
-use lib.ListN.{length, take, drop}
+use lib.ListN.{length, take}
 use lib.Dec.{eqb}
 use Rattle.wire.specs.declared.choice.Choice.{Choice}
-use Rattle.wire.specs.declared.fault.Refusal.{Refusal}
-use Rattle.wire.specs.declared.span.Span.{Span}
 use Rattle.wire.specs.declared.width.Width.{Width}
 use Rattle.wire.specs.Answers.{widthOf, startOf, lenOf, spanPart}
 use Rattle.wire.specs.Bytes.{digits}

@@ -11,6 +11,7 @@ use Rattle.wire.specs.Reading.{Part, Ans, found, refused, next}
 use Rattle.wire.specs.Writing.{cut, partOf}
 use Rattle.plans.specs.declared.step.Step.{Step}
 use Rattle.plans.specs.declared.find.Place.{Place}
+use Rattle.plans.specs.declared.item.Item.{Item}
 
 -- ---- judging and putting
 
@@ -59,3 +60,15 @@ placeAnswer Place.Nowhere asked src = refused (noField asked)
 abbrev pub placeAhead : Place → List Part → List Part
 placeAhead (Place.At s) ps = spanPart s ∷ ps
 placeAhead Place.Nowhere ps = ps
+
+-- ---- list items
+
+-- the bytes of the item at a place, or why there is none
+abbrev pub itemAnswer : Item → List ℕ → Ans (List ℕ)
+itemAnswer (Item.At s) src = cut src (startOf s) (lenOf s) 0
+itemAnswer (Item.No f) src = refused f
+
+-- an item that is found lies in the source
+abbrev pub ItemInside : Item → List ℕ → Type 0
+ItemInside (Item.At s) src = startOf s + lenOf s ≤ length src
+ItemInside (Item.No f) src = Unit {0}

@@ -8,79 +8,56 @@ use Rattle.plans.proofs.Judged.{list-size, list-good, list-trailing, li
 use Rattle.plans.proofs.Reach.{list-near, list-place, list-inside, part-bytes}
 use Rattle.plans.proofs.judge.judge_list.Statement.{statement}
 use Rattle.plans.proofs.judge.judge_list.Tie as tie
-use Rattle.plans.proofs.judge.judge_list.Reads as reads
-use Rattle.plans.proofs.judge.judge_list.Lts as lts
-use Rattle.schemes.proofs.list.list_end.Reads as list-end-reads
-use Rattle.wire.proofs.fault.Refusal.placed_at.Reads as placed-at-reads
-use Rattle.wire.proofs.fault.Refusal.trailing.Reads as trailing-reads
-use Rattle.wire.proofs.span.Span.measure.Reads as measure-reads
-use Rattle.wire.proofs.span.Span.part.Reads as part-reads
 
--- src/judge.rt:55:11
 measure-requires : tie.Need-measure-requires
 measure-requires c κs = search needs
 
--- src/judge.rt:56:23
 enum-known-len : tie.Need-enum-known-len
 enum-known-len c = search needs
 
--- src/judge.rt:57:28
 part-requires : tie.Need-part-requires
 part-requires c κs = search needs
 
--- src/judge.rt:57:19
 list-end-requires : tie.Need-list-end-requires
 list-end-requires c κs = search needs
 
--- src/judge.rt:58:31
 enum-known-e : tie.Need-enum-known-e
 enum-known-e c = search needs
 
--- src/judge.rt:59:31
 add-end : tie.Need-add-end
 add-end c = omega (arith, list-near _ (told measureAnswer (c .before .e .given .1) (c .before .before .before .list-end .ensures)))
 
--- src/judge.rt:61:25
 returns : tie.Need-returns
 returns c = let l = told measureAnswer (c .before .before .e .given .1) (c .before .before .before .before .list-end .ensures) in
     (list-good _ _ _ (told measureAnswer (c .before .before .before .before .before .before .before .len .given .1) (c .before .before .before .before .before .before .before .before .before .measure .ensures)) (c .before .before .before .before .before .part .ensures) l (c .if1 .taken), omega (arith, list-near _ l))
 
--- src/judge.rt:63:32
 sub-left : tie.Need-sub-left
 sub-left c = let src = c .before .before .before .before .before .before .before .before .before .before .before .args .src .now in
     let p = told measureAnswer (c .before .before .before .before .before .before .before .len .given .1) (c .before .before .before .before .before .before .before .before .before .measure .ensures) in
     let bytes = part-bytes src _ _ 0 (c .before .before .before .before .before .part .ensures) (bytes-of src (λ i. (c .before .before .before .before .before .before .before .before .before .before .shared-slice-known .given i) .fits)) in
     omega (arith, list-inside _ bytes (told measureAnswer (c .before .before .e .given .1) (c .before .before .before .before .list-end .ensures)), list-size _ _ _ p (c .before .before .before .before .before .part .ensures))
 
--- src/judge.rt:64:33
 trailing-requires : tie.Need-trailing-requires
 trailing-requires c κs = search needs
 
--- src/judge.rt:66:29
 enum-known-f : tie.Need-enum-known-f
 enum-known-f c = search needs
 
--- src/judge.rt:67:33
 add-place : tie.Need-add-place
 add-place c = omega (arith, list-place _ (told measureAnswer (c .before .before .f .given .1) (c .before .before .before .before .list-end .ensures)))
 
--- src/judge.rt:68:33
 placed-at-requires : tie.Need-placed-at-requires
 placed-at-requires c κs = search needs
 
--- src/judge.rt:72:21
 enum-known-f-2 : tie.Need-enum-known-f-2
 enum-known-f-2 c = search needs
 
--- src/judge.rt:51:1
 returns-2 : tie.Need-returns-2
 returns-2 c = (rw (c .trailing .ensures) (list-trailing _ _ _ (told measureAnswer (c .before .before .before .before .before .before .before .before .len .given .1) (c .before .before .before .before .before .before .before .before .before .before .measure .ensures)) (c .before .before .before .before .before .before .part .ensures) (told measureAnswer (c .before .before .before .e .given .1) (c .before .before .before .before .before .list-end .ensures)) (c .before .if1 .left)), tt)
 
--- src/judge.rt:51:1
 returns-3 : tie.Need-returns-3
 returns-3 c = (rw (c .placed-at .ensures) (list-no _ _ _ (told measureAnswer (c .before .before .before .before .before .before .before .before .len .given .1) (c .before .before .before .before .before .before .before .before .before .before .measure .ensures)) (c .before .before .before .before .before .before .part .ensures) (told measureAnswer (c .before .before .before .f .given .1) (c .before .before .before .before .before .list-end .ensures))), tt)
 
--- src/judge.rt:51:1
 returns-4 : tie.Need-returns-4
 returns-4 c = (list-out _ _ _ (told measureAnswer (c .before .f2 .given .1) (c .before .before .before .measure .ensures)), tt)
 

@@ -7,45 +7,31 @@ use Rattle.wire.proofs.Rest.{told}
 use Rattle.plans.proofs.Judged.{plain-good, plain-wrong, plain-out}
 use Rattle.plans.proofs.judge.judge_plain.Statement.{statement}
 use Rattle.plans.proofs.judge.judge_plain.Tie as tie
-use Rattle.plans.proofs.judge.judge_plain.Reads as reads
-use Rattle.plans.proofs.judge.judge_plain.Lts as lts
-use Rattle.wire.proofs.fault.Refusal.mismatch.Reads as mismatch-reads
-use Rattle.wire.proofs.span.Span.len.Reads as len-reads
-use Rattle.wire.proofs.span.Span.measure.Reads as measure-reads
 
--- src/judge.rt:20:9
 len-requires : tie.Need-len-requires
 len-requires c κs = search needs
 
--- src/judge.rt:22:28
 mismatch-requires : tie.Need-mismatch-requires
 mismatch-requires c κs = search needs
 
--- src/judge.rt:22:9
 returns : tie.Need-returns
 returns c = (rw (c .mismatch .ensures) (plain-wrong _ _ _ (λ e. c .before .if1 .taken (c .before .before .len .ensures ∙ e))), tt)
 
--- src/judge.rt:24:11
 measure-requires : tie.Need-measure-requires
 measure-requires c κs = search needs
 
--- src/judge.rt:26:23
 enum-told : tie.Need-enum-told
 enum-told c = search needs
 
--- src/judge.rt:26:23
 add-end : tie.Need-add-end
 add-end c = omega arith
 
--- src/judge.rt:29:21
 enum-known-f : tie.Need-enum-known-f
 enum-known-f c = search needs
 
--- src/judge.rt:16:1
 returns-2 : tie.Need-returns-2
 returns-2 c = (rw (c .before .before .before .before .len .ensures) (plain-good _ _ _ (sym (c .before .before .before .before .len .ensures) ∙ c .before .before .before .if1 .left) (told measureAnswer (c .enum-told .given .1) (c .before .before .measure .ensures))), let same = c .before .before .before .if1 .left in omega arith)
 
--- src/judge.rt:16:1
 returns-3 : tie.Need-returns-3
 returns-3 c = (plain-out _ _ _ (sym (c .before .before .before .before .before .len .ensures) ∙ c .before .before .before .before .if1 .left) (told measureAnswer (c .before .f .given .1) (c .before .before .before .measure .ensures)), tt)
 

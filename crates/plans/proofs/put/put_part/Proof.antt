@@ -4,28 +4,19 @@ use native.Mathlib.Omega.{arith}
 use Rattle.plans.proofs.Putting.{part-puts}
 use Rattle.plans.proofs.put.put_part.Statement.{statement}
 use Rattle.plans.proofs.put.put_part.Tie as tie
-use Rattle.plans.proofs.put.put_part.Reads as reads
-use Rattle.plans.proofs.put.put_part.Lts as lts
-use Rattle.wire.proofs.span.Span.len.Reads as len-reads
-use Rattle.wire.proofs.write.put_span.Reads as put-span-reads
 
--- src/put.rt:32:5
 put-span-requires : tie.Need-put-span-requires
 put-span-requires c κs = search needs
 
--- src/put.rt:33:10
 len-requires : tie.Need-len-requires
 len-requires c κs = search needs
 
--- src/put.rt:33:5
 add-result : tie.Need-add-result
 add-result c = omega (arith, c .len .ensures, c .before .before .before .before .before .before .before .pre .1, c .before .before .before .before .before .before .before .good)
 
--- src/put.rt:28:1
 same-length : tie.Need-same-length
 same-length c = search needs
 
--- src/put.rt:28:1
 returns : tie.Need-returns
 returns c = let a = c .before .before .before .before .before .before .before in part-puts _ _ _ _ (c .len .ensures) (a .pre .0) (a .pre .1) (c .before .before .before .put-span .ensures .1)
 

@@ -4,50 +4,34 @@ use native.Mathlib.Omega.{arith}
 use Rattle.plans.proofs.Pushed.{pushed-none}
 use Rattle.plans.proofs.plan.Plan.due.Statement.{statement}
 use Rattle.plans.proofs.plan.Plan.due.Tie as tie
-use Rattle.plans.proofs.plan.Plan.due.Reads as reads
-use Rattle.plans.proofs.plan.Plan.due.Lts as lts
-use Rattle.plans.proofs.plan.Plan.push.Reads as push-reads
-use Rattle.plans.proofs.plan.wide.Reads as wide-reads
-use Rattle.wire.proofs.fault.Refusal.mismatch.Reads as mismatch-reads
-use Rattle.wire.proofs.fault.Refusal.no_arm.Reads as no-arm-reads
 
--- src/plan.rt:158:13
 wide-requires : tie.Need-wide-requires
 wide-requires c κs = search needs
 
--- src/plan.rt:161:20
 enum-told : tie.Need-enum-told
 enum-told c = search needs
 
--- src/plan.rt:164:43
 mismatch-requires : tie.Need-mismatch-requires
 mismatch-requires c κs = search needs
 
--- src/plan.rt:164:21
 push-requires : tie.Need-push-requires
 push-requires c κs = search needs
 
--- src/plan.rt:167:54
 enum-told-2 : tie.Need-enum-told-2
 enum-told-2 c = search needs
 
--- src/plan.rt:167:54
 no-arm-requires : tie.Need-no-arm-requires
 no-arm-requires c κs = search needs
 
--- src/plan.rt:167:32
 push-requires-2 : tie.Need-push-requires-2
 push-requires-2 c κs = search needs
 
--- src/plan.rt:154:5
 returns : tie.Need-returns
 returns c = let a = c .before .before .before .before in rw (c .before .enum-told .given .1, c .if1 .taken) (pushed-none _ (a .pre .all), omega arith)
 
--- src/plan.rt:154:5
 returns-2 : tie.Need-returns-2
 returns-2 c = rw (c .before .before .before .enum-told .given .1, c .before .before .if1 .left, ← c .before .before .before .before .before .wide .ensures .0, ← c .before .mismatch .ensures) (c .push .ensures, omega (arith, c .push .ensures .count))
 
--- src/plan.rt:154:5
 returns-3 : tie.Need-returns-3
 returns-3 c = rw (c .before .before .enum-told2 .given .1, ← c .before .before .before .before .wide .ensures .0, ← c .before .no-arm .ensures) (c .push2 .ensures, omega (arith, c .push2 .ensures .count))
 

@@ -1,14 +1,10 @@
 -- No step is there, and room for all. Assumes nothing.
-use borrow.Author.Needs.{needs}
 use native.Mathlib.Omega.{arith}
 use mathlib.Core.Path.{refl}
 use Rattle.plans.specs.Steps.{steps}
 use Rattle.plans.proofs.plan.Plan.empty.Statement.{statement}
 use Rattle.plans.proofs.plan.Plan.empty.Tie as tie
-use Rattle.plans.proofs.plan.Plan.empty.Reads as reads
-use Rattle.plans.proofs.plan.Plan.empty.Lts as lts
 
--- src/plan.rt:50:5
 returns : tie.Need-returns
 unfolding steps
 returns c = (refl, record { all = refl; left = omega arith })

@@ -1,49 +1,36 @@
 -- The field's part where there is one, and else an empty part. Assumes nothing.
 use borrow.Author.Needs.{needs}
-use mathlib.Core.Path.{sym, ap, _∙_}
+use mathlib.Core.Path.{ap, _∙_}
 use Rattle.wire.specs.Writing.{partOf}
 use Rattle.wire.proofs.Rest.{told}
 use Rattle.plans.specs.Walked.{placeAnswer}
 use Rattle.plans.proofs.plan.Plan.field.Statement.{statement}
 use Rattle.plans.proofs.plan.Plan.field.Tie as tie
-use Rattle.plans.proofs.plan.Plan.field.Reads as reads
-use Rattle.plans.proofs.plan.Plan.field.Lts as lts
-use Rattle.plans.proofs.plan.Plan.find.Reads as find-reads
-use Rattle.wire.proofs.span.Span.part.Reads as part-reads
 
--- src/find.rt:66:15
 find-requires : tie.Need-find-requires
 find-requires c κs = search needs
 
--- src/find.rt:67:23
 enum-known-span : tie.Need-enum-known-span
 enum-known-span c = search needs
 
--- src/find.rt:67:32
 part-requires : tie.Need-part-requires
 part-requires c κs = search needs
 
--- src/find.rt:68:31
 enum-told : tie.Need-enum-told
 enum-told c = search needs
 
--- src/find.rt:68:31
 sub-result : tie.Need-sub-result
 sub-result c = search needs
 
--- src/find.rt:68:31
 part-result-start : tie.Need-part-result-start
 part-result-start c = search needs
 
--- src/find.rt:68:31
 part-result-end : tie.Need-part-result-end
 part-result-end c = search needs
 
--- src/find.rt:62:5
 returns : tie.Need-returns
 returns c = let a = c .before .before .before .before .before .before in c .part .ensures ∙ ap partOf (told (λ r. placeAnswer r (a .args .index) (a .args .s .now)) (c .before .before .span .given .1) (c .before .before .before .before .find .ensures (a .args .s .now)))
 
--- src/find.rt:62:5
 returns-2 : tie.Need-returns-2
 returns-2 c = let a = c .before .before .before .before .before in ap partOf (told (λ r. placeAnswer r (a .args .index) (a .args .s .now)) (c .before .enum-told .given .1) (c .before .before .before .find .ensures (a .args .s .now)))
 

@@ -2,7 +2,7 @@
 use borrow.Author.Needs.{needs}
 use Prim.Native.Nat.{ℕ, _+_, _-_, _≤_, _<_}
 use native.Mathlib.Omega.{arith}
-use mathlib.Core.Path.{_≡_, refl, sym, ap, _∙_}
+use mathlib.Core.Path.{_≡_, refl, ap, _∙_}
 use mathlib.Core.Logic.{⊎-elim}
 use mathlib.Core.List.{List}
 use Rattle.wire.specs.Writing.{pickField, fieldOf}
@@ -11,9 +11,6 @@ use Rattle.plans.proofs.Loops.{from}
 use Rattle.plans.proofs.Finding.{find-at, find-past, find-skip, find-none}
 use Rattle.plans.proofs.plan.Plan.find.Statement.{statement}
 use Rattle.plans.proofs.plan.Plan.find.Tie as tie
-use Rattle.plans.proofs.plan.Plan.find.Reads as reads
-use Rattle.plans.proofs.plan.Plan.find.Lts as lts
-use Rattle.plans.proofs.step.Step.field.Reads as field-reads
 
 abbrev Inv-loop : tie.InvT-loop
 Inv-loop index count cells left₀ i₀ left i = (i ≤ count) × ((src : List ℕ) → pickField (spansOf (from count cells i)) left index src ≡ pickField (spansOf (from count cells 0)) index index src)
@@ -21,27 +18,21 @@ Inv-loop index count cells left₀ i₀ left i = (i ≤ count) × ((src : List �
 abbrev μ-loop : tie.MeasureT-loop
 μ-loop index count cells left₀ i₀ left i = count - i
 
--- src/find.rt:45:9
 loop-holds : tie.Need-loop-holds Inv-loop μ-loop
 loop-holds c = (omega arith, λ src. refl)
 
--- src/find.rt:46:21
 mul-c : tie.Need-mul-c Inv-loop μ-loop
 mul-c c = omega (arith, c .before .before .before .pre .left)
 
--- src/find.rt:46:21
 array-copy-out-c : tie.Need-array-copy-out-c Inv-loop μ-loop
 array-copy-out-c c = omega (arith, c .before .before .before .pre .left)
 
--- src/find.rt:48:19
 field-requires : tie.Need-field-requires Inv-loop μ-loop
 field-requires c κs = search needs
 
--- src/find.rt:49:27
 enum-known-span : tie.Need-enum-known-span Inv-loop μ-loop
 enum-known-span c = search needs
 
--- src/find.rt:51:25
 returns : tie.Need-returns Inv-loop μ-loop
 unfolding steps fieldOf
 returns c = let f = c .before .before .before .before in
@@ -49,22 +40,18 @@ returns c = let f = c .before .before .before .before in
     let a = f .before .before .before .before .before in
     λ src. find-at (a .args .self .count) (a .args .self .cells) (l .i) (l .left) (a .args .index) src (a .pre .all) (a .pre .left) (f .field .result) (omega arith) (f .field .ensures) (c .before .before .span .given .1) (c .if1 .taken) ∙ l .inv .1 src
 
--- src/find.rt:53:21
 sub-left : tie.Need-sub-left Inv-loop μ-loop
 sub-left c = search needs
 
 enum-told : tie.Need-enum-told Inv-loop μ-loop
 enum-told c = search needs
 
--- src/find.rt:57:13
 add-i : tie.Need-add-i Inv-loop μ-loop
 add-i c = omega arith
 
--- src/find.rt:45:9
 loop-less : tie.Need-loop-less Inv-loop μ-loop
 loop-less c = omega arith
 
--- src/find.rt:45:9
 loop-again : tie.Need-loop-again Inv-loop μ-loop
 loop-again c = let f = c .before in
     let l = c .before .before .before .before .loop in
@@ -81,7 +68,6 @@ loop-again c = let f = c .before in
           (c .match .came),
     )
 
--- src/find.rt:37:5
 returns-2 : tie.Need-returns-2 Inv-loop μ-loop
 unfolding steps fieldOf
 returns-2 c = let l = c .before .loop in

@@ -11,9 +11,6 @@ use Rattle.plans.specs.Walked.{after}
 use Rattle.plans.proofs.Loops.{from, judged-on, judged-no, judged-all, after-start}
 use Rattle.plans.proofs.plan.Plan.judge.Statement.{statement}
 use Rattle.plans.proofs.plan.Plan.judge.Tie as tie
-use Rattle.plans.proofs.plan.Plan.judge.Reads as reads
-use Rattle.plans.proofs.plan.Plan.judge.Lts as lts
-use Rattle.plans.proofs.step.Step.judge.Reads as judge-reads
 
 abbrev Inv-loop : tie.InvT-loop
 Inv-loop src count cells at₀ i₀ at i = (i ≤ count) × (at ≤ i * 0x10001) × (after at (spell (from count cells i) src at) ≡ after 0 (spell (from count cells 0) src 0))
@@ -21,31 +18,24 @@ Inv-loop src count cells at₀ i₀ at i = (i ≤ count) × (at ≤ i * 0x10001)
 abbrev μ-loop : tie.MeasureT-loop
 μ-loop src count cells at₀ i₀ at i = count - i
 
--- src/judge.rt:105:9
 loop-holds : tie.Need-loop-holds Inv-loop μ-loop
 loop-holds c = (omega arith, omega arith, refl)
 
--- src/judge.rt:106:21
 mul-c : tie.Need-mul-c Inv-loop μ-loop
 mul-c c = omega (arith, c .before .before .before .before .pre .left)
 
--- src/judge.rt:106:21
 array-copy-out-c : tie.Need-array-copy-out-c Inv-loop μ-loop
 array-copy-out-c c = omega (arith, c .before .before .before .before .pre .left)
 
--- src/judge.rt:108:19
 judge-requires : tie.Need-judge-requires Inv-loop μ-loop
 judge-requires c κs = omega (arith, c .before .before .before .before .before .pre .left)
 
--- src/judge.rt:109:31
 enum-known-e : tie.Need-enum-known-e Inv-loop μ-loop
 enum-known-e c = search needs
 
--- src/judge.rt:112:29
 enum-known-f : tie.Need-enum-known-f Inv-loop μ-loop
 enum-known-f c = search needs
 
--- src/judge.rt:113:21
 returns : tie.Need-returns Inv-loop μ-loop
 unfolding steps
 returns c = let j = c .before .before .before in
@@ -54,15 +44,12 @@ returns c = let j = c .before .before .before in
     let room : a .args .self .count ≤ length (a .args .self .cells) = omega (arith, a .pre .left, a .pre .all) in
     sym (judged-no _ _ _ (l .at) (l .i) (omega arith) room (told measureAnswer (c .before .f .given .1) (j .judge .ensures .0))) ∙ l .inv .2 ∙ after-start (spell (steps (a .args .self)) (a .args .src .now) 0)
 
--- src/judge.rt:116:13
 add-i : tie.Need-add-i Inv-loop μ-loop
 add-i c = omega arith
 
--- src/judge.rt:105:9
 loop-less : tie.Need-loop-less Inv-loop μ-loop
 loop-less c = omega arith
 
--- src/judge.rt:105:9
 loop-again : tie.Need-loop-again Inv-loop μ-loop
 loop-again c = let j = c .before .before .before in
     let l = j .before .before .before .loop in
@@ -71,7 +58,6 @@ loop-again c = let j = c .before .before .before in
     let room : a .args .self .count ≤ length (a .args .self .cells) = omega (arith, a .pre .left, a .pre .all) in
     (omega arith, omega arith, sym (judged-on _ _ _ (l .at) (l .i) (omega arith) room (told measureAnswer (c .before .e .given .1) (j .judge .ensures .0))) ∙ l .inv .2)
 
--- src/judge.rt:97:5
 returns-2 : tie.Need-returns-2 Inv-loop μ-loop
 unfolding steps
 returns-2 c = let l = c .before .loop in

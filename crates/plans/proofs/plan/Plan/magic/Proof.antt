@@ -1,31 +1,22 @@
 -- The magic is tested as its field tests it. Assumes nothing.
 use borrow.Author.Needs.{needs}
-use mathlib.Core.Path.{refl, ap}
+use mathlib.Core.Path.{ap}
 use lib.Dec.{eqb}
 use Rattle.wire.specs.declared.width.Width.{Width}
 use Rattle.kinds.specs.Codes.{magic}
 use Rattle.plans.proofs.Numbers.{numbered}
 use Rattle.plans.proofs.plan.Plan.magic.Statement.{statement}
 use Rattle.plans.proofs.plan.Plan.magic.Tie as tie
-use Rattle.plans.proofs.plan.Plan.magic.Reads as reads
-use Rattle.plans.proofs.plan.Plan.magic.Lts as lts
-use Rattle.plans.proofs.plan.Plan.number.Reads as number-reads
-use Rattle.plans.proofs.plan.wider.Reads as wider-reads
-use Rattle.wire.proofs.fault.Refusal.bad_value.Reads as bad-value-reads
 
--- src/plan.rt:120:13
 wider-requires : tie.Need-wider-requires
 wider-requires c κs = search needs
 
--- src/plan.rt:121:54
 bad-value-requires : tie.Need-bad-value-requires
 bad-value-requires c κs = search needs
 
--- src/plan.rt:121:9
 number-requires : tie.Need-number-requires
 number-requires c κs = search needs
 
--- src/plan.rt:116:5
 returns : tie.Need-returns
 returns c = numbered Width.Four magic (c .before .before .wider .ensures .0) (ap (λ n. eqb n 0xFF544347) (c .before .before .wider .ensures .0)) (c .before .bad-value .ensures) (c .before .before .wider .ensures .1) (c .number .ensures)
 

@@ -3,22 +3,16 @@ use borrow.Author.Needs.{needs}
 use Rattle.plans.proofs.Pushed.{push-one}
 use Rattle.plans.proofs.plan.Plan.push.Statement.{statement}
 use Rattle.plans.proofs.plan.Plan.push.Tie as tie
-use Rattle.plans.proofs.plan.Plan.push.Reads as reads
-use Rattle.plans.proofs.plan.Plan.push.Lts as lts
 
--- src/plan.rt:67:9
 mul-t6 : tie.Need-mul-t6
 mul-t6 c = search needs
 
--- src/plan.rt:67:9
 element-set-from-self : tie.Need-element-set-from-self
 element-set-from-self c = search needs
 
--- src/plan.rt:68:22
 add-self : tie.Need-add-self
 add-self c = search needs
 
--- src/plan.rt:62:5
 returns : tie.Need-returns
 returns c = push-one (c .args .t1) (c .args .s) (c .pre)
 

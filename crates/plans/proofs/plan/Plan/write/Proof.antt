@@ -2,53 +2,38 @@
 use borrow.Author.Needs.{needs}
 use Rattle.plans.specs.Steps.{steps, spell}
 use native.Mathlib.Omega.{arith}
-use mathlib.Core.Path.{refl}
 use Rattle.wire.specs.Answers.{measureAnswer}
 use Rattle.wire.proofs.Rest.{told}
 use Rattle.plans.proofs.Finding.{sized-legal, written-fits, written-full, written-no}
 use Rattle.plans.proofs.plan.Plan.write.Statement.{statement}
 use Rattle.plans.proofs.plan.Plan.write.Tie as tie
-use Rattle.plans.proofs.plan.Plan.write.Reads as reads
-use Rattle.plans.proofs.plan.Plan.write.Lts as lts
-use Rattle.plans.proofs.plan.Plan.judge.Reads as judge-reads
-use Rattle.plans.proofs.plan.Plan.put.Reads as put-reads
-use Rattle.wire.proofs.fault.Refusal.no_room.Reads as no-room-reads
 
--- src/write.rt:16:15
 judge-requires : tie.Need-judge-requires
 judge-requires c κs = search needs
 
--- src/write.rt:17:27
 enum-known-n : tie.Need-enum-known-n
 enum-known-n c = search needs
 
--- src/write.rt:19:21
 put-requires : tie.Need-put-requires
 put-requires c κs = let a = c .before .before .before .before .before .before .before .before in
     let legal = sized-legal (spell (steps (a .args .self)) (a .args .src .now) 0) (told measureAnswer (c .before .before .before .n .given .1) (c .before .before .before .before .before .judge .ensures)) in
     (a .pre, legal .0, omega (arith, legal .1))
 
--- src/write.rt:20:21
 same-length : tie.Need-same-length
 same-length c = search needs
 
--- src/write.rt:20:21
 returns : tie.Need-returns
 returns c = let a = c .before .before .before .before .before .before .before .before .before .before .before in written-fits (spell (steps (a .args .self)) (a .args .src .now) 0) (a .args .out .now) (told measureAnswer (c .before .before .before .before .before .before .n .given .1) (c .before .before .before .before .before .before .before .before .judge .ensures)) (omega arith) (c .before .before .put .ensures)
 
--- src/write.rt:22:29
 no-room-requires : tie.Need-no-room-requires
 no-room-requires c κs = search needs
 
--- src/write.rt:24:25
 enum-known-f : tie.Need-enum-known-f
 enum-known-f c = search needs
 
--- src/write.rt:11:5
 returns-2 : tie.Need-returns-2
 returns-2 c = let a = c .before .before .before .before .before .before .before .before in rw (c .no-room .ensures) (written-full (spell (steps (a .args .self)) (a .args .src .now) 0) (a .args .out .now) (told measureAnswer (c .before .before .before .n .given .1) (c .before .before .before .before .before .judge .ensures)) (omega arith))
 
--- src/write.rt:11:5
 returns-3 : tie.Need-returns-3
 returns-3 c = let a = c .before .before .before .before .before .before in written-no (spell (steps (a .args .self)) (a .args .src .now) 0) (a .args .out .now) (told measureAnswer (c .before .f .given .1) (c .before .before .before .judge .ensures))
 

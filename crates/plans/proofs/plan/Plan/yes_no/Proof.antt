@@ -7,25 +7,16 @@ use Rattle.kinds.specs.Codes.{yesNo}
 use Rattle.plans.proofs.Numbers.{numbered, yes-or-no}
 use Rattle.plans.proofs.plan.Plan.yes_no.Statement.{statement}
 use Rattle.plans.proofs.plan.Plan.yes_no.Tie as tie
-use Rattle.plans.proofs.plan.Plan.yes_no.Reads as reads
-use Rattle.plans.proofs.plan.Plan.yes_no.Lts as lts
-use Rattle.plans.proofs.plan.Plan.number.Reads as number-reads
-use Rattle.plans.proofs.plan.byte.Reads as byte-reads
-use Rattle.wire.proofs.fault.Refusal.bad_value.Reads as bad-value-reads
 
--- src/plan.rt:118:13
 byte-requires : tie.Need-byte-requires
 byte-requires c κs = search needs
 
--- src/plan.rt:119:44
 bad-value-requires : tie.Need-bad-value-requires
 bad-value-requires c κs = search needs
 
--- src/plan.rt:119:9
 number-requires : tie.Need-number-requires
 number-requires c κs = search needs
 
--- src/plan.rt:114:5
 returns : tie.Need-returns
 returns c = numbered Width.One yesNo (c .before .before .byte .ensures .0) (ap (λ n. leb n 1) (c .before .before .byte .ensures .0) ∙ yes-or-no (c .before .before .before .args .b)) (c .before .bad-value .ensures) (c .before .before .byte .ensures .1) (c .number .ensures)
 

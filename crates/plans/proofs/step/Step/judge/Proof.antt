@@ -1,79 +1,55 @@
 -- Each step by its own judge. Assumes nothing.
 use borrow.Author.Needs.{needs}
 use native.Mathlib.Omega.{arith}
-use mathlib.Core.Path.{ap}
 use Rattle.plans.proofs.Judged.{number-good, fails, width-near}
 use Rattle.plans.proofs.step.Step.judge.Statement.{statement}
 use Rattle.plans.proofs.step.Step.judge.Tie as tie
-use Rattle.plans.proofs.step.Step.judge.Reads as reads
-use Rattle.plans.proofs.step.Step.judge.Lts as lts
-use Rattle.plans.proofs.judge.judge_buffer.Reads as judge-buffer-reads
-use Rattle.plans.proofs.judge.judge_list.Reads as judge-list-reads
-use Rattle.plans.proofs.judge.judge_plain.Reads as judge-plain-reads
-use Rattle.wire.proofs.fault.Refusal.placed_at.Reads as placed-at-reads
-use Rattle.wire.proofs.width.Width.bytes.Reads as bytes-reads
 
--- src/judge.rt:83:26
 enum-known-self : tie.Need-enum-known-self
 enum-known-self c = search needs
 
--- src/judge.rt:84:32
 bytes-requires : tie.Need-bytes-requires
 bytes-requires c κs = search needs
 
--- src/judge.rt:84:27
 add-end : tie.Need-add-end
 add-end c = omega (arith, c .bytes .ensures, width-near (c .before .before .self .given .0 .0))
 
--- src/judge.rt:87:25
 enum-known-self-2 : tie.Need-enum-known-self-2
 enum-known-self-2 c = search needs
 
--- src/judge.rt:87:40
 judge-plain-requires : tie.Need-judge-plain-requires
 judge-plain-requires c κs = search needs
 
--- src/judge.rt:88:26
 enum-known-self-3 : tie.Need-enum-known-self-3
 enum-known-self-3 c = search needs
 
--- src/judge.rt:88:42
 judge-buffer-requires : tie.Need-judge-buffer-requires
 judge-buffer-requires c κs = search needs
 
--- src/judge.rt:89:30
 enum-known-self-4 : tie.Need-enum-known-self-4
 enum-known-self-4 c = search needs
 
--- src/judge.rt:89:39
 judge-list-requires : tie.Need-judge-list-requires
 judge-list-requires c κs = search needs
 
--- src/judge.rt:90:25
 enum-known-self-5 : tie.Need-enum-known-self-5
 enum-known-self-5 c = search needs
 
--- src/judge.rt:90:43
 placed-at-requires : tie.Need-placed-at-requires
 placed-at-requires c κs = search needs
 
--- src/judge.rt:78:5
 returns : tie.Need-returns
 returns c = rw (c .before .before .self .given .1) (number-good _ _ _ _ (c .bytes .ensures), omega (arith, c .bytes .ensures, width-near (c .before .before .self .given .0 .0)))
 
--- src/judge.rt:78:5
 returns-2 : tie.Need-returns-2
 returns-2 c = rw (c .before .before .self2 .given .1) (c .judge-plain .ensures)
 
--- src/judge.rt:78:5
 returns-3 : tie.Need-returns-3
 returns-3 c = rw (c .before .before .self3 .given .1) (c .judge-buffer .ensures)
 
--- src/judge.rt:78:5
 returns-4 : tie.Need-returns-4
 returns-4 c = rw (c .before .before .self4 .given .1) (c .judge-list .ensures)
 
--- src/judge.rt:78:5
 returns-5 : tie.Need-returns-5
 returns-5 c = rw (c .before .before .self5 .given .1) (fails _ _ _ (c .placed-at .ensures), tt)
 

@@ -1,95 +1,70 @@
 -- Each step's bytes at their place; a buffer's behind its length. Assumes nothing.
 use borrow.Author.Needs.{needs}
 use native.Mathlib.Omega.{arith}
-use Rattle.plans.proofs.Putting.{puts-then, puts-none, puts-length, number-room, plain-room, list-room, buffer-room, behind-length}
+use Rattle.plans.proofs.Putting.{puts-then, puts-none, number-room, plain-room, list-room, buffer-room, behind-length}
 use Rattle.plans.proofs.step.Step.put.Statement.{statement}
 use Rattle.plans.proofs.step.Step.put.Tie as tie
-use Rattle.plans.proofs.step.Step.put.Reads as reads
-use Rattle.plans.proofs.step.Step.put.Lts as lts
-use Rattle.plans.proofs.put.put_digits.Reads as put-digits-reads
-use Rattle.plans.proofs.put.put_part.Reads as put-part-reads
-use Rattle.wire.proofs.span.Span.len.Reads as len-reads
 
--- src/put.rt:43:26
 enum-known-self : tie.Need-enum-known-self
 enum-known-self c = search needs
 
--- src/put.rt:43:39
 put-digits-requires : tie.Need-put-digits-requires
 put-digits-requires c κs = number-room _ _ _ (c .before .before .before .before .before .before .pre) (c .before .before .self .given .1)
 
--- src/put.rt:44:28
 enum-known-self-2 : tie.Need-enum-known-self-2
 enum-known-self-2 c = search needs
 
--- src/put.rt:44:37
 put-part-requires : tie.Need-put-part-requires
 put-part-requires c κs = plain-room _ _ _ (c .before .before .before .before .before .before .pre) (c .before .before .self2 .given .1)
 
--- src/put.rt:45:29
 enum-known-self-3 : tie.Need-enum-known-self-3
 enum-known-self-3 c = search needs
 
--- src/put.rt:46:27
 len-requires : tie.Need-len-requires
 len-requires c κs = search needs
 
--- src/put.rt:47:21
 put-digits-requires-2 : tie.Need-put-digits-requires-2
 put-digits-requires-2 c κs = let (i, h) = buffer-room _ _ _ (c .before .before .before .before .before .before .before .pre) (c .before .before .before .self3 .given .1) in omega arith
 
--- src/put.rt:48:17
 put-part-requires-2 : tie.Need-put-part-requires-2
 put-part-requires-2 c κs = let a = c .before .before .before .before .before .before .before .before .before .before .before in behind-length (c .before .before .before .before .before .before .before .self3 .given .0 .1 .0) (a .args .src .now) (a .args .at) (c .before .before .before .before .before .len .result) (buffer-room _ _ _ (a .pre) (c .before .before .before .before .before .before .before .self3 .given .1)) (c .before .before .before .put-digits2 .ensures) .1
 
--- src/put.rt:50:30
 enum-known-self-4 : tie.Need-enum-known-self-4
 enum-known-self-4 c = search needs
 
--- src/put.rt:50:39
 put-part-requires-3 : tie.Need-put-part-requires-3
 put-part-requires-3 c κs = list-room _ _ _ (c .before .before .before .before .before .before .pre) (c .before .before .self4 .given .1)
 
--- src/put.rt:51:31
 enum-told : tie.Need-enum-told
 enum-told c = search needs
 
--- src/put.rt:38:5
 same-length : tie.Need-same-length
 same-length c = search needs
 
--- src/put.rt:38:5
 returns : tie.Need-returns
 returns c = rw (c .before .before .before .before .before .self .given .1) (c .before .before .put-digits .ensures)
 
--- src/put.rt:38:5
 same-length-2 : tie.Need-same-length-2
 same-length-2 c = search needs
 
--- src/put.rt:38:5
 returns-2 : tie.Need-returns-2
 returns-2 c = rw (c .before .before .before .before .before .self2 .given .1) (c .before .before .put-part .ensures)
 
--- src/put.rt:38:5
 same-length-3 : tie.Need-same-length-3
 same-length-3 c = search needs
 
--- src/put.rt:38:5
 returns-3 : tie.Need-returns-3
 returns-3 c = let a = c .before .before .before .before .before .before .before .before .before .before .before .before .before .before in
     let (fits, more) = behind-length (c .before .before .before .before .before .before .before .before .before .before .self3 .given .0 .1 .0) (a .args .src .now) (a .args .at) (c .before .before .before .before .before .before .before .before .len .result) (buffer-room _ _ _ (a .pre) (c .before .before .before .before .before .before .before .before .before .before .self3 .given .1)) (c .before .before .before .before .before .before .put-digits2 .ensures) in
     let first = rw (c .before .before .before .before .before .before .before .before .len .ensures) at (c .before .before .before .before .before .before .put-digits2 .ensures) in
     rw (c .before .before .before .before .before .before .before .before .before .before .self3 .given .1) (puts-then fits first (c .before .before .put-part2 .ensures))
 
--- src/put.rt:38:5
 same-length-4 : tie.Need-same-length-4
 same-length-4 c = search needs
 
--- src/put.rt:38:5
 returns-4 : tie.Need-returns-4
 returns-4 c = rw (c .before .before .before .before .before .self4 .given .1) (c .before .before .put-part3 .ensures)
 
--- src/put.rt:38:5
 returns-5 : tie.Need-returns-5
 returns-5 c = rw (c .enum-told .given .1) (puts-none _ _)
 
