@@ -1,0 +1,21 @@
+-- A byte field of the record's plan is the record's. Assumes nothing.
+use borrow.Author.Needs.{needs}
+use Rattle.fields.proofs.Found.{field-measured}
+use Rattle.fields.proofs.field_size.sensitive_area.Statement.{statement}
+use Rattle.fields.proofs.field_size.sensitive_area.Tie as tie
+
+empty-requires : tie.Need-empty-requires
+empty-requires c κs = search needs
+
+sensitive-requires : tie.Need-sensitive-requires
+sensitive-requires c κs = search needs
+
+field-size-requires : tie.Need-field-size-requires
+field-size-requires c κs = search needs
+
+returns : tie.Need-returns
+returns c = field-measured _ _ (c .before .before .empty .ensures .0) (c .before .sensitive .ensures) (c .field-size .ensures)
+
+pub sensitive-area-spec : {M : Type 1} → statement M
+sensitive-area-spec =
+    tie.close (tie.spec empty-requires sensitive-requires field-size-requires returns)

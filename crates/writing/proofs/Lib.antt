@@ -1,0 +1,2 @@
+pub mod Marshalled
+pub mod Promises
