@@ -67,24 +67,28 @@ module _ (ps : List Part) (src : List ℕ) (at : ℕ) {bs : List ℕ} where
       let (ds, zs, f, g, h) = ahead-found (spelt w (lengthTo m) len at) (ahead (found xs) (lay l ps src (at + w + len))) q in
       let (vs, ys, i, j, o) = ahead-found (found xs) (lay l ps src (at + w + len)) g in
       let (fits, allowed, same) = spelt-found w (lengthTo m) len at f in
-      let place : at + (w + len) ≡ at + w + len = omega arith in
-      (ap length shows ∙ size, record {
-        behind = ys;
-        laid = ap (λ k. lay l ps src k) place ∙ j;
-        size = omega (arith, ap length h, length-append ds zs, ap length same, length-digits w len, ap length o, length-append vs ys, ap length (found-same i));
-      })
+      let place : at + (w + len) ≡ at + w + len = omega arith in (
+        ap length shows ∙ size,
+        record {
+          behind = ys;
+          laid = ap (λ k. lay l ps src k) place ∙ j;
+          size = omega (arith, ap length h, length-append ds zs, ap length same, length-digits w len, ap length o, length-append vs ys, ap length (found-same i));
+        },
+      )
 
   pub counted-goes : (m start len : ℕ) (i l : Layout) → lay (counted m i l) (span start len ∷ ps) src at ≡ found bs → (length (take len (drop start src)) ≡ len) × Goes l ps src at len bs
   unfolding lay
   counted-goes m start len i l p =
       let (xs, e, q) = next-found (cut src start len at) _ p in
       let (size, stands, shows) = cut-found src start len at e in
-      let (vs, ys, f, g, h) = ahead-found (moved at (whole m i xs)) (lay l ps src (at + len)) q in
-      (ap length shows ∙ size, record {
-        behind = ys;
-        laid = g;
-        size = omega (arith, ap length h, length-append vs ys, ap length (whole-same m i xs (moved-found at (whole m i xs) f)));
-      })
+      let (vs, ys, f, g, h) = ahead-found (moved at (whole m i xs)) (lay l ps src (at + len)) q in (
+        ap length shows ∙ size,
+        record {
+          behind = ys;
+          laid = g;
+          size = omega (arith, ap length h, length-append vs ys, ap length (whole-same m i xs (moved-found at (whole m i xs) f)));
+        },
+      )
 
 -- ---- one layout behind another
 

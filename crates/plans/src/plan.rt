@@ -93,7 +93,13 @@ impl Plan {
         ensures { λ r. ⌜ Numbered Two alg (a .0) self r ⌝ }
     {
         let n = wide(a.0);
-        self.number(a.is_listed(), Word::Code, Width::Two, n, Refusal::unknown_code(0, n))
+        self.number(
+            a.is_listed(),
+            Word::Code,
+            Width::Two,
+            n,
+            Refusal::unknown_code(0, n),
+        )
     }
 
     pub fn curve(self, c: TpmEccCurve) -> Plan
@@ -101,7 +107,13 @@ impl Plan {
         ensures { λ r. ⌜ Numbered Two curve (c .0) self r ⌝ }
     {
         let n = wide(c.0);
-        self.number(c.is_listed(), Word::Code, Width::Two, n, Refusal::unknown_code(0, n))
+        self.number(
+            c.is_listed(),
+            Word::Code,
+            Width::Two,
+            n,
+            Refusal::unknown_code(0, n),
+        )
     }
 
     pub fn attestation(self, t: TpmSt) -> Plan
@@ -109,7 +121,13 @@ impl Plan {
         ensures { λ r. ⌜ Numbered Two attestation (t .0) self r ⌝ }
     {
         let n = wide(t.0);
-        self.number(t.is_listed(), Word::Code, Width::Two, n, Refusal::unknown_code(0, n))
+        self.number(
+            t.is_listed(),
+            Word::Code,
+            Width::Two,
+            n,
+            Refusal::unknown_code(0, n),
+        )
     }
 
     pub fn yes_no(self, b: u8) -> Plan
@@ -117,7 +135,13 @@ impl Plan {
         ensures { λ r. ⌜ Numbered One yesNo b self r ⌝ }
     {
         let n = byte(b);
-        self.number(n <= 1, Word::Number, Width::One, n, Refusal::bad_value(0, n))
+        self.number(
+            n <= 1,
+            Word::Number,
+            Width::One,
+            n,
+            Refusal::bad_value(0, n),
+        )
     }
 
     pub fn magic(self, m: u32) -> Plan
@@ -125,7 +149,13 @@ impl Plan {
         ensures { λ r. ⌜ Numbered Four magic m self r ⌝ }
     {
         let n = wider(m);
-        self.number(n == 0xFF544347, Word::Number, Width::Four, n, Refusal::bad_value(0, n))
+        self.number(
+            n == 0xFF544347,
+            Word::Number,
+            Width::Four,
+            n,
+            Refusal::bad_value(0, n),
+        )
     }
 
     pub fn uint16(self, n: u16) -> Plan

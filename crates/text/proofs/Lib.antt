@@ -1,0 +1,3 @@
+pub mod Decimals
+pub mod Hexes
+pub mod Rows

@@ -1,0 +1,53 @@
+-- Texts in a row: the room that is left behind each, and the lines that they make. Assumes nothing.
+use Prim.Native.Nat.{ℕ, _+_, _≤_}
+use native.Mathlib.Omega.{arith}
+use mathlib.Core.Path.{_≡_, sym, ap, _∙_, subst}
+use mathlib.Core.List.{List, _++_, append-assoc}
+use lib.ListN.{length, length-append}
+use Rattle.plans.specs.declared.step.Word.{Word}
+use Rattle.plans.specs.Lines.{theBytes, line}
+use Rattle.plans.specs.Steps.{sayWord}
+use Rattle.plans.specs.Walked.{Puts}
+use Rattle.plans.proofs.Putting.{puts-then, puts-length}
+use Rattle.text.specs.Ascii.{ascii}
+use Rattle.text.specs.Text.{decimal, hex, wordText, sayText, lineText}
+use Rattle.text.proofs.Decimals.{decimal-length}
+
+module _ {at : ℕ} {xs old : List ℕ} {m : ℕ} {mid : List ℕ} (k : ℕ) (p : Puts at xs old m mid) (few : length xs ≤ k) where
+  -- where there was room for k and j bytes, and k at most were put, there is room for j
+  pub puts-left : (j : ℕ) → at + (k + j) ≤ length old → m + j ≤ length mid
+  puts-left j h = let fits : m ≤ length old = omega (arith, p .behind) in omega (arith, p .behind, puts-length fits p)
+
+  pub puts-both : {ys : List ℕ} {r : ℕ} {last : List ℕ} → at + k ≤ length old → Puts m ys mid r last → Puts at (xs ++ ys) old r last
+  puts-both h q = let fits : m ≤ length old = omega (arith, p .behind) in puts-then fits p q
+
+-- ---- how long the parts of a line are
+
+pub head-length : (place size : ℕ) → length (decimal place ++ (ascii " " ++ decimal size)) ≤ 41
+head-length place size = omega (arith, length-append (decimal place) (ascii " " ++ decimal size), decimal-length place, decimal-length size)
+
+pub word-length : (w : Word) → length (wordText w) ≤ 8
+word-length Word.Code = omega arith
+word-length Word.Number = omega arith
+
+-- ---- lines
+
+head-joined : (place size : ℕ) (rest : List ℕ) → (decimal place ++ (ascii " " ++ decimal size)) ++ rest ≡ decimal place ++ (ascii " " ++ (decimal size ++ rest))
+head-joined place size rest = append-assoc (decimal place) (ascii " " ++ decimal size) rest
+
+pub number-line : (place size : ℕ) (w : Word) (n : ℕ)
+    → (decimal place ++ (ascii " " ++ decimal size)) ++ (wordText w ++ (decimal n ++ ascii "\n")) ≡ lineText (line place size (sayWord w n))
+number-line place size w n = head-joined place size (wordText w ++ (decimal n ++ ascii "\n")) ∙ ap (λ x. decimal place ++ (ascii " " ++ (decimal size ++ x))) (by w)
+  where
+    by : (w : Word) → wordText w ++ (decimal n ++ ascii "\n") ≡ sayText (sayWord w n) ++ ascii "\n"
+    by Word.Code = sym (append-assoc (wordText Word.Code) (decimal n) (ascii "\n"))
+    by Word.Number = sym (append-assoc (wordText Word.Number) (decimal n) (ascii "\n"))
+
+pub bytes-line : (place size : ℕ) (xs : List ℕ)
+    → (decimal place ++ (ascii " " ++ decimal size)) ++ (ascii " bytes " ++ (hex xs ++ ascii "\n")) ≡ lineText (line place size (theBytes xs))
+bytes-line place size xs =
+    head-joined place size (ascii " bytes " ++ (hex xs ++ ascii "\n"))
+    ∙ ap (λ x. decimal place ++ (ascii " " ++ (decimal size ++ x))) (sym (append-assoc (ascii " bytes ") (hex xs) (ascii "\n")))
+
+pub puts-same : {at : ℕ} {xs ys old : List ℕ} {r : ℕ} {last : List ℕ} → xs ≡ ys → Puts at xs old r last → Puts at ys old r last
+puts-same {at} {old = old} {r = r} {last = last} e p = subst (λ bs. Puts at bs old r last) e p
