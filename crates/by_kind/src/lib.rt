@@ -1,0 +1,2 @@
+// Plans of records by the kind's number.
+pub mod kind;
