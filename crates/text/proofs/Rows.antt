@@ -1,5 +1,5 @@
 -- Texts in a row: the room that is left behind each, and the lines that they make. Assumes nothing.
-use Prim.Native.Nat.{ℕ, _+_, _≤_}
+use Prim.Native.Nat.{ℕ, _+_, _*_, _≤_}
 use native.Mathlib.Omega.{arith}
 use mathlib.Core.Path.{_≡_, sym, ap, _∙_, subst}
 use mathlib.Core.List.{List, _++_, append-assoc}
@@ -12,6 +12,7 @@ use Rattle.plans.proofs.Putting.{puts-then, puts-length}
 use Rattle.text.specs.Ascii.{ascii}
 use Rattle.text.specs.Text.{decimal, hex, wordText, sayText, lineText}
 use Rattle.text.proofs.Decimals.{decimal-length}
+use Rattle.text.proofs.Hexes.{hex-length}
 
 module _ {at : ℕ} {xs old : List ℕ} {m : ℕ} {mid : List ℕ} (k : ℕ) (p : Puts at xs old m mid) (few : length xs ≤ k) where
   -- where there was room for k and j bytes, and k at most were put, there is room for j
@@ -51,3 +52,17 @@ bytes-line place size xs =
 
 pub puts-same : {at : ℕ} {xs ys old : List ℕ} {r : ℕ} {last : List ℕ} → xs ≡ ys → Puts at xs old r last → Puts at ys old r last
 puts-same {at} {old = old} {r = r} {last = last} e p = subst (λ bs. Puts at bs old r last) e p
+
+-- ---- how long lines are
+
+pub number-line-length : (place size : ℕ) (w : Word) (n : ℕ) → length (lineText (line place size (sayWord w n))) ≤ 70
+number-line-length place size w n =
+    let texts = decimal n ++ ascii "\n" in
+    let whole = ap length (sym (number-line place size w n)) in
+    omega (arith, length-append (decimal place ++ (ascii " " ++ decimal size)) (wordText w ++ texts), head-length place size, length-append (wordText w) texts, word-length w, length-append (decimal n) (ascii "\n"), decimal-length n)
+
+pub bytes-line-length : (place size : ℕ) (xs : List ℕ) → length (lineText (line place size (theBytes xs))) ≤ 50 + 2 * length xs
+bytes-line-length place size xs =
+    let texts = hex xs ++ ascii "\n" in
+    let whole = ap length (sym (bytes-line place size xs)) in
+    omega (arith, length-append (decimal place ++ (ascii " " ++ decimal size)) (ascii " bytes " ++ texts), head-length place size, length-append (hex xs) (ascii "\n"), hex-length xs)
