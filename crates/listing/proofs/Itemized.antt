@@ -1,17 +1,17 @@
 -- The lines of a list's items, one item behind the other. Assumes nothing.
-use Prim.Native.Nat.{ℕ, zero, suc, _+_, _*_, _-_, _≤_, _<_}
+use Prim.Native.Nat.{ℕ, suc, _+_, _*_, _-_, _≤_, _<_}
 use native.Mathlib.Omega.{arith}
-use mathlib.Core.Path.{_≡_, refl, sym, ap, _∙_, subst}
+use mathlib.Core.Path.{_≡_, sym, ap, _∙_, subst}
 use mathlib.Core.List.{List, [], _∷_, _++_, append-nil, append-assoc}
 use lib.Dec.{leb}
 use borrow.Author.Tests.{leb-true}
 use lib.ListN.{length, take, drop, length-append}
 use Rattle.wire.specs.declared.fault.Refusal.{Refusal}
 use Rattle.wire.specs.declared.span.Span.{Span}
-use Rattle.wire.specs.Answers.{startOf, lenOf, spanPart}
+use Rattle.wire.specs.Answers.{startOf, lenOf}
 use Rattle.wire.specs.Bytes.{Bytes, be}
 use Rattle.wire.specs.Layout.{lengthTo, countTo}
-use Rattle.wire.specs.Reading.{Part, num, tag, span, Ans, found, refused, next, left, Parsed, parsed, piece, field, list, read}
+use Rattle.wire.specs.Reading.{Part, num, tag, span, found, refused, next, left, parsed, piece, field, list, read}
 use Rattle.wire.specs.Writing.{whole}
 use Rattle.wire.proofs.Steps.{found-same, parsed-same, next-found, when-found}
 use Rattle.wire.proofs.Cuts.{cut-length}
@@ -25,7 +25,7 @@ use Rattle.plans.specs.Steps.{stepLines}
 use Rattle.plans.specs.Lines.{Line, line, aCode, aNumber, spanLine, lines, itemLines}
 use Rattle.plans.specs.Walked.{Puts}
 use Rattle.plans.proofs.Items.{item-ends}
-use Rattle.plans.proofs.Putting.{puts-then, puts-none, puts-length}
+use Rattle.plans.proofs.Putting.{puts-then, puts-none}
 use Rattle.text.specs.Text.{lineText, linesText}
 use Rattle.text.proofs.Rows.{number-line-length, bytes-line-length}
 use Rattle.listing.proofs.Parts.{text-append, item-text}
@@ -91,8 +91,16 @@ item-length x xs place inside =
     let a = lineText (line place 2 (aCode (x .hash .0))) in
     let b = lineText (line (place + 2) 1 (aNumber (lenOf t))) in
     let d = lineText (spanLine (place + 3) (startOf t) (lenOf t) xs) in
-    omega (arith, ap length (sym (item-text (x .hash .0) place t xs)), length-append a (b ++ d), length-append b d, number-line-length place 2 Word.Code (x .hash .0), number-line-length (place + 2) 1 Word.Number (lenOf t),
-    bytes-line-length (place + 3) (lenOf t) (take (lenOf t) (drop (startOf t) xs)), cut-length xs (startOf t) (lenOf t) 0 inside)
+    omega (
+      arith,
+      ap length (sym (item-text (x .hash .0) place t xs)),
+      length-append a (b ++ d),
+      length-append b d,
+      number-line-length place 2 Word.Code (x .hash .0),
+      number-line-length (place + 2) 1 Word.Number (lenOf t),
+      bytes-line-length (place + 3) (lenOf t) (take (lenOf t) (drop (startOf t) xs)),
+      cut-length xs (startOf t) (lenOf t) 0 inside,
+    )
 
 -- ---- the loop
 

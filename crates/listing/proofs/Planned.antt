@@ -1,18 +1,17 @@
 -- The lines of a plan's steps, one step behind the other. Assumes nothing.
-use Prim.Native.Nat.{ℕ, zero, suc, _+_, _*_, _-_, _≤_, _<_}
+use Prim.Native.Nat.{ℕ, _+_, _*_, _-_, _≤_, _<_}
 use native.Mathlib.Omega.{arith}
 use mathlib.Core.Path.{_≡_, refl, sym, ap, _∙_, subst}
-use mathlib.Core.Bool.{Bool, true, false}
 use mathlib.Core.List.{List, [], _∷_, _++_, append-nil, append-assoc}
 use lib.ListN.{length, take, drop, getD, length-append}
 use lib.Dec.{leb}
 use Rattle.wire.specs.Answers.{widthOf, startOf, lenOf}
 use Rattle.wire.specs.Bytes.{digits}
-use Rattle.wire.specs.Reading.{Ans, found, next}
-use Rattle.wire.specs.Writing.{cut, whole, moved, partOf}
+use Rattle.wire.specs.Reading.{found}
+use Rattle.wire.specs.Writing.{cut, whole, partOf}
 use Rattle.wire.proofs.Digits.{length-digits}
 use Rattle.wire.proofs.Cuts.{cut-length}
-use Rattle.wire.proofs.Steps.{found-refused, found-same, next-found, when-found}
+use Rattle.wire.proofs.Steps.{next-found, when-found}
 use Rattle.wire.proofs.Then.{whole-same}
 use Rattle.wire.proofs.Written.{moved-found}
 use Rattle.kinds.specs.Kinds.{pcrSelection}
@@ -24,7 +23,7 @@ use Rattle.plans.specs.Walked.{Inside, Legal, Puts}
 use Rattle.plans.proofs.Loops.{blank, from, from-cons, from-none}
 use Rattle.plans.proofs.Putting.{next-step, puts-then, puts-none, puts-length}
 use Rattle.text.specs.Text.{linesText}
-use Rattle.listing.specs.Judged.{IsSelections, Listable, stepSize, Owed}
+use Rattle.listing.specs.Judged.{Listable, stepSize, Owed}
 use Rattle.listing.proofs.Parts.{text-append}
 
 -- a step that spells bytes has so many

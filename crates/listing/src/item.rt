@@ -68,7 +68,13 @@ fn put_items(xs: &[u8], count: usize, place: usize, out: &mut [u8], at: usize) -
 }
 
 // The lines of a list of src that was judged and stands at `place`: that of its count, and those of its items.
-pub(crate) fn put_list_lines(list: Span, src: &[u8], place: usize, out: &mut [u8], at: usize) -> usize
+pub(crate) fn put_list_lines(
+    list: Span,
+    src: &[u8],
+    place: usize,
+    out: &mut [u8],
+    at: usize,
+) -> usize
     requires { ⌜ IsSelections list (now src) × (place ≤ 0x10000) × (length (now src) ≤ 0x10000) × (at + (3110 + 2 * lenOf list) ≤ length (now out)) ⌝ }
     ensures { λ r. ⌜ Puts at (linesText (stepLines (Step.Selections list) (now (src .entry)) place)) (now (out .entry)) r (now (out .exit))
         × (r ≤ at + (3110 + 2 * lenOf list)) ⌝ }

@@ -1,15 +1,14 @@
 -- The lines of a record that is written: one field and what follows it, and one layout behind another. Assumes nothing.
-use Prim.Native.Nat.{ℕ, _+_, _^_, _≤_, _<_}
-use native.Mathlib.Nat.{add-assoc, add-zero}
+use Prim.Native.Nat.{ℕ, _+_}
 use native.Mathlib.Omega.{arith}
 use mathlib.Core.Path.{_≡_, refl, sym, ap, _∙_}
-use mathlib.Core.Bool.{Bool, true, false}
-use mathlib.Core.List.{List, [], _∷_, _++_, append-assoc}
+use mathlib.Core.Bool.{true}
+use mathlib.Core.List.{List, _∷_, _++_, append-assoc}
 use lib.ListN.{length, take, drop, length-append}
 use lib.Dec.{eqb}
 use borrow.Author.Tests.{eqb-true}
-use Rattle.wire.specs.Layout.{Rule, free, listed, fixed, lengthTo, countTo, allows, Layout, stop, noArm, arm, number, plain, buffer, counted, _then_}
-use Rattle.wire.specs.Reading.{Part, num, tag, span, Ans, found, refused, next, read}
+use Rattle.wire.specs.Layout.{Rule, free, listed, fixed, lengthTo, countTo, allows, Layout, number, plain, buffer, counted, _then_}
+use Rattle.wire.specs.Reading.{Part, num, span, Ans, found, read}
 use Rattle.wire.specs.Writing.{cut, spelt, whole, moved, ahead, lay}
 use Rattle.wire.specs.Unwritten.{Shaped}
 use Rattle.wire.proofs.Digits.{length-digits}
@@ -17,7 +16,7 @@ use Rattle.wire.proofs.Steps.{found-refused, found-same, next-found, when-found
 use Rattle.wire.proofs.Then.{whole-same}
 use Rattle.wire.proofs.Unwritten.{Carried, by-shape}
 use Rattle.wire.proofs.Written.{spelt-found, cut-found, moved-found}
-use Rattle.plans.specs.Lines.{Line, line, aNumber, spanLine, listLines, sayNumber, lines}
+use Rattle.plans.specs.Lines.{line, aNumber, spanLine, listLines, sayNumber, lines}
 use Rattle.plans.specs.Steps.{wordOf, sayWord}
 
 pub word-says : (r : Rule) (n : ℕ) → sayWord (wordOf r) n ≡ sayNumber r n

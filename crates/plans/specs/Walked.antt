@@ -1,11 +1,10 @@
 -- What the walks over a plan's steps find on their way. Assumes nothing.
 use Prim.Native.Nat.{ℕ, _+_, _≤_}
 use mathlib.Core.Path.{_≡_}
-use mathlib.Core.List.{List, [], _∷_, _++_}
+use mathlib.Core.List.{List, _∷_, _++_}
 use lib.ListN.{length, take, drop}
 use Rattle.wire.specs.declared.measure.Measure.{Measure}
-use Rattle.wire.specs.Answers.{widthOf, startOf, lenOf, spanPart}
-use Rattle.wire.specs.Bytes.{digits}
+use Rattle.wire.specs.Answers.{startOf, lenOf, spanPart}
 use Rattle.wire.specs.Faults.{noField}
 use Rattle.wire.specs.Reading.{Part, Ans, found, refused, next}
 use Rattle.wire.specs.Writing.{cut, partOf}

@@ -66,3 +66,11 @@ bytes-line-length place size xs =
     let texts = hex xs ++ ascii "\n" in
     let whole = ap length (sym (bytes-line place size xs)) in
     omega (arith, length-append (decimal place ++ (ascii " " ++ decimal size)) (ascii " bytes " ++ texts), head-length place size, length-append (hex xs) (ascii "\n"), hex-length xs)
+
+-- ---- words with numbers behind them
+
+pub said-length : (w : List ℕ) (n k : ℕ) → length w ≤ k → length (w ++ decimal n) ≤ k + 20
+said-length w n k h = omega (arith, length-append w (decimal n), decimal-length n)
+
+pub said : (w d : List ℕ) {rest all : List ℕ} → rest ≡ all → (w ++ d) ++ rest ≡ w ++ (d ++ all)
+said w d {rest} e = append-assoc w d rest ∙ ap (λ x. w ++ (d ++ x)) e

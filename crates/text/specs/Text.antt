@@ -44,3 +44,11 @@ lineText l = decimal (l .place) ++ (ascii " " ++ (decimal (l .size) ++ (sayText 
 abbrev pub linesText : List Line → List ℕ
 linesText [] = []
 linesText (l ∷ ls) = lineText l ++ linesText ls
+
+-- the first line of a record that was read: its kind, where it ends, and how many bytes are left behind it
+abbrev pub readText : (kind end tail : ℕ) → List ℕ
+readText k e t = ascii "kind " ++ (decimal k ++ (ascii " read " ++ (decimal e ++ (ascii " tail " ++ (decimal t ++ ascii "\n")))))
+
+-- the one line of a refusal
+abbrev pub refusedText : (kind number place value : ℕ) → List ℕ
+refusedText k n p v = ascii "kind " ++ (decimal k ++ (ascii " refused " ++ (decimal n ++ (ascii " at " ++ (decimal p ++ (ascii " value " ++ (decimal v ++ ascii "\n")))))))

@@ -40,7 +40,7 @@ fn put_word(word: Word, out: &mut [u8], at: usize) -> usize
     }
 }
 
-fn put_line_end(out: &mut [u8], at: usize) -> usize
+pub(crate) fn put_line_end(out: &mut [u8], at: usize) -> usize
     requires { ⌜ at + 1 ≤ length (now out) ⌝ }
     ensures { λ r. ⌜ Puts at (ascii "\n") (now (out .entry)) r (now (out .exit)) ⌝ }
 {

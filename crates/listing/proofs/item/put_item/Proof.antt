@@ -2,61 +2,43 @@
 use borrow.Author.Needs.{needs}
 use Prim.Native.Nat.{_+_, _*_}
 use native.Mathlib.Omega.{arith}
-use mathlib.Core.Path.{_∙_}
 use Rattle.wire.specs.Answers.{lenOf}
 use Rattle.plans.specs.declared.step.Word.{Word}
 use Rattle.text.proofs.Rows.{puts-left, puts-both, puts-same, number-line-length}
-use Rattle.listing.proofs.Parts.{part-length, part-line, one-line, number-same, code-same, item-text}
+use Rattle.listing.proofs.Parts.{part-length, part-line, number-same, code-same, item-text}
 use Rattle.listing.proofs.item.put_item.Statement.{statement}
 use Rattle.listing.proofs.item.put_item.Tie as tie
-use Rattle.listing.proofs.item.put_item.Reads as reads
-use Rattle.listing.proofs.item.put_item.Lts as lts
-use Rattle.listing.proofs.item.wide.Reads as wide-reads
-use Rattle.text.proofs.line.put_bytes_line.Reads as put-bytes-line-reads
-use Rattle.text.proofs.line.put_number_line.Reads as put-number-line-reads
-use Rattle.wire.proofs.span.Span.len.Reads as len-reads
-use Rattle.wire.proofs.span.Span.part.Reads as part-reads
 
--- src/item.rt:35:16
 add-size : tie.Need-add-size
 add-size c = omega (arith, c .before .before .before .before .pre .1)
 
--- src/item.rt:36:16
 add-body : tie.Need-add-body
 add-body c = omega (arith, c .before .before .before .before .pre .1)
 
--- src/item.rt:37:55
 wide-requires : tie.Need-wide-requires
 wide-requires c κs = search needs
 
--- src/item.rt:37:9
 put-number-line-requires : tie.Need-put-number-line-requires
 put-number-line-requires c κs = omega (arith, c .before .before .before .before .before .before .pre .2)
 
--- src/item.rt:38:57
 len-requires : tie.Need-len-requires
 len-requires c κs = search needs
 
--- src/item.rt:38:9
 put-number-line-requires-2 : tie.Need-put-number-line-requires-2
 put-number-line-requires-2 c κs = puts-left 70 (c .before .before .before .before .put-number-line .ensures) (number-line-length _ _ Word.Code _) 70 (omega (arith, c .before .before .before .before .before .before .before .before .before .before .before .pre .2))
 
--- src/item.rt:39:26
 part-requires : tie.Need-part-requires
 part-requires c κs = search needs
 
--- src/item.rt:39:5
 put-bytes-line-requires : tie.Need-put-bytes-line-requires
 put-bytes-line-requires c κs = let a = c .before .before .before .before .before .before .before .before .before .before .before .before .before .before .before .before in
     let k = 50 + 2 * lenOf (a .args .x .«pcr_select») in
     let left = puts-left 70 (c .before .before .before .before .put-number-line2 .ensures) (number-line-length _ _ Word.Number _) k (puts-left 70 (c .before .before .before .before .before .before .before .before .before .put-number-line .ensures) (number-line-length _ _ Word.Code _) (70 + k) (omega (arith, a .pre .2))) in
     omega (arith, part-length (a .args .x .«pcr_select») (a .args .xs .now) (a .pre .0) (c .before .part .ensures), left)
 
--- src/item.rt:28:1
 same-length : tie.Need-same-length
 same-length c = search needs
 
--- src/item.rt:28:1
 returns : tie.Need-returns
 returns c = let a = c .before .before .before .before .before .before .before .before .before .before .before .before .before .before .before .before .before .before .before in
     let t = a .args .x .«pcr_select» in

@@ -1,6 +1,6 @@
 -- The items that were passed are put, and the lines of the others are left. Assumes nothing.
 use borrow.Author.Needs.{needs}
-use Prim.Native.Nat.{_+_, _*_, _-_}
+use Prim.Native.Nat.{_-_}
 use native.Mathlib.Omega.{arith}
 use Rattle.wire.proofs.Rest.{told}
 use Rattle.wire.proofs.Stand.{bytes-of}
@@ -9,10 +9,6 @@ use Rattle.plans.proofs.Putting.{puts-length}
 use Rattle.listing.proofs.Itemized.{Itemized, itemized-none, itemized-length, itemized-room, itemized-more, itemized-all, itemized-refused, item-fits}
 use Rattle.listing.proofs.item.put_items.Statement.{statement}
 use Rattle.listing.proofs.item.put_items.Tie as tie
-use Rattle.listing.proofs.item.put_items.Reads as reads
-use Rattle.listing.proofs.item.put_items.Lts as lts
-use Rattle.listing.proofs.item.put_item.Reads as put-item-reads
-use Rattle.schemes.proofs.tpms.TpmsPcrSelection.unmarshal.Reads as unmarshal-reads
 
 abbrev Inv-loop : tie.InvT-loop
 Inv-loop xs count place out₀ at e₀ end₀ i₀ out e end i = Itemized count xs out₀ place at out e end i
@@ -20,23 +16,18 @@ Inv-loop xs count place out₀ at e₀ end₀ i₀ out e end i = Itemized count 
 abbrev μ-loop : tie.MeasureT-loop
 μ-loop xs count place out₀ at e₀ end₀ i₀ out e end i = count - i
 
--- src/item.rt:50:5
 loop-holds : tie.Need-loop-holds Inv-loop μ-loop
 loop-holds c = itemized-none _ _ _ _ _
 
--- src/item.rt:51:15
 unmarshal-requires : tie.Need-unmarshal-requires Inv-loop μ-loop
 unmarshal-requires c κs = search needs
 
--- src/item.rt:52:37
 enum-known-x : tie.Need-enum-known-x Inv-loop μ-loop
 enum-known-x c = search needs
 
--- src/item.rt:53:29
 add-start : tie.Need-add-start Inv-loop μ-loop
 add-start c = omega (arith, c .before .before .before .before .before .before .before .before .pre .1, c .before .before .before .before .before .before .before .before .pre .2, c .before .before .before .before .before .loop .inv .near)
 
--- src/item.rt:54:17
 put-item-requires : tie.Need-put-item-requires Inv-loop μ-loop
 put-item-requires c κs = let a = c .before .before .before .before .before .before .before .before .before in
     let l = c .before .before .before .before .before .before .loop in
@@ -44,39 +35,31 @@ put-item-requires c κs = let a = c .before .before .before .before .before .bef
     let fits = itemized-length (l .inv) (a .pre .3) (a .pre .0) in
     (inside, omega (arith, a .pre .1, a .pre .2, l .inv .near), omega (arith, a .pre .3, a .pre .0, l .inv .room, puts-length fits (l .inv .puts)))
 
--- src/item.rt:58:17
 enum-told : tie.Need-enum-told Inv-loop μ-loop
 enum-told c = search needs
 
--- src/item.rt:58:17
 same-length : tie.Need-same-length Inv-loop μ-loop
 same-length c = let a = c .before .before .before .before .before .before .before in let l = c .before .before .before .before .loop in puts-length (itemized-length (l .inv) (a .pre .3) (a .pre .0)) (l .inv .puts)
 
--- src/item.rt:58:17
 returns : tie.Need-returns Inv-loop μ-loop
 returns c = let a = c .before .before .before .before .before .before .before in
     let l = c .before .before .before .before .loop in
     (itemized-refused (l .inv) (a .pre .3) (a .pre .0) (omega arith) (told pcrSelectionAnswer (c .enum-told .given .1) (c .before .before .unmarshal .ensures)), itemized-room (l .inv) (a .pre .3) (a .pre .0))
 
--- src/item.rt:61:9
 add-i : tie.Need-add-i Inv-loop μ-loop
 add-i c = omega (arith, c .before .before .before .before .before .before .before .before .before .before .before .before .pre .0)
 
--- src/item.rt:50:5
 loop-less : tie.Need-loop-less Inv-loop μ-loop
 loop-less c = omega arith
 
--- src/item.rt:50:5
 loop-again : tie.Need-loop-again Inv-loop μ-loop
 loop-again c = let a = c .before .before .before .before .before .before .before .before .before .before .before .before in
     let l = c .before .before .before .before .before .before .before .before .before .loop in
     itemized-more (l .inv) (a .pre .3) (a .pre .0) (c .before .before .before .before .before .x .given .0 .0) (omega arith) (bytes-of (a .args .xs .now) (λ i. (c .before .before .before .before .before .before .before .before .before .before .before .shared-slice-known .given i) .fits)) (told pcrSelectionAnswer (c .before .before .before .before .before .x .given .1) (c .before .before .before .before .before .before .before .unmarshal .ensures)) (c .before .before .put-item .ensures)
 
--- src/item.rt:43:1
 same-length-2 : tie.Need-same-length-2 Inv-loop μ-loop
 same-length-2 c = let a = c .before .before .before .before in let l = c .before .loop in puts-length (itemized-length (l .inv) (a .pre .3) (a .pre .0)) (l .inv .puts)
 
--- src/item.rt:43:1
 returns-2 : tie.Need-returns-2 Inv-loop μ-loop
 returns-2 c = let a = c .before .before .before .before in (itemized-all (c .before .loop .inv) (a .pre .3) (a .pre .0) (omega arith), itemized-room (c .before .loop .inv) (a .pre .3) (a .pre .0))
 

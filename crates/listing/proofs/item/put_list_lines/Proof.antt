@@ -2,14 +2,9 @@
 use borrow.Author.Needs.{needs}
 use Prim.Native.Nat.{_+_, _*_}
 use native.Mathlib.Omega.{arith}
-use mathlib.Core.Path.{_≡_, sym, ap, _∙_}
-use lib.ListN.{length}
-use Rattle.wire.specs.Answers.{startOf, lenOf}
-use Rattle.wire.specs.Reading.{found}
-use Rattle.wire.specs.Writing.{whole}
+use Rattle.wire.specs.Answers.{lenOf}
 use Rattle.wire.proofs.Rest.{told}
 use Rattle.kinds.specs.Answers.{uint32Answer}
-use Rattle.kinds.specs.Kinds.{pcrSelection}
 use Rattle.plans.specs.declared.step.Word.{Word}
 use Rattle.plans.proofs.Items.{count-is, count-there}
 use Rattle.text.proofs.Rows.{puts-left, puts-both, puts-same, number-line-length}
@@ -17,38 +12,25 @@ use Rattle.listing.proofs.Parts.{judged-part}
 use Rattle.listing.proofs.Itemized.{count-few, list-text}
 use Rattle.listing.proofs.item.put_list_lines.Statement.{statement}
 use Rattle.listing.proofs.item.put_list_lines.Tie as tie
-use Rattle.listing.proofs.item.put_list_lines.Reads as reads
-use Rattle.listing.proofs.item.put_list_lines.Lts as lts
-use Rattle.kinds.proofs.uint.uint32.Reads as uint32-reads
-use Rattle.listing.proofs.item.put_items.Reads as put-items-reads
-use Rattle.text.proofs.line.put_number_line.Reads as put-number-line-reads
-use Rattle.wire.proofs.span.Span.part.Reads as part-reads
 
--- src/item.rt:74:9
 part-requires : tie.Need-part-requires
 part-requires c κs = search needs
 
--- src/item.rt:75:11
 uint32-requires : tie.Need-uint32-requires
 uint32-requires c κs = search needs
 
--- src/item.rt:76:27
 enum-known-n : tie.Need-enum-known-n
 enum-known-n c = search needs
 
--- src/item.rt:77:25
 cast-count : tie.Need-cast-count
 cast-count c = search needs
 
--- src/item.rt:78:17
 put-number-line-requires : tie.Need-put-number-line-requires
 put-number-line-requires c κs = omega (arith, c .before .before .before .before .before .before .before .before .pre .3)
 
--- src/item.rt:79:27
 cast-put-items : tie.Need-cast-put-items
 cast-put-items c = search needs
 
--- src/item.rt:79:13
 put-items-requires : tie.Need-put-items-requires
 put-items-requires c κs = let a = c .before .before .before .before .before .before .before .before .before .before .before .before in
     let (w, inside, same, size) = judged-part (a .args .list) (a .args .src .now) (a .pre .0) (c .before .before .before .before .before .before .before .before .before .part .ensures) in
@@ -58,24 +40,22 @@ put-items-requires c κs = let a = c .before .before .before .before .before .be
     let left = puts-left 70 (c .before .before .before .put-number-line .ensures) (number-line-length _ _ Word.Number _) k (omega (arith, a .pre .3)) in
     (omega arith, a .pre .1, omega (arith, a .pre .2, inside, size), omega (arith, left, size))
 
--- src/item.rt:81:30
 enum-told : tie.Need-enum-told
 enum-told c = search needs
 
--- src/item.rt:70:1
 same-length : tie.Need-same-length
 same-length c = search needs
 
--- src/item.rt:70:1
 returns : tie.Need-returns
 returns c = let a = c .before .before .before .before .before .before .before .before .before .before .before .before .before .before .before in
     let (w, inside, same, size) = judged-part (a .args .list) (a .args .src .now) (a .pre .0) (c .before .before .before .before .before .before .before .before .before .before .before .before .part .ensures) in
     let count = count-is _ w (told uint32Answer (c .before .before .before .before .before .before .before .before .before .n .given .1) (c .before .before .before .before .before .before .before .before .before .before .before .uint32 .ensures)) in
-    let first = c .before .before .before .before .before .before .put-number-line .ensures in
-    (puts-same (list-text (a .args .list) (a .args .src .now) (a .args .place) same count)
-    (puts-both 70 (c .before .before .before .before .before .before .put-number-line .ensures) (number-line-length _ _ Word.Number _) (omega (arith, a .pre .3)) (c .before .before .put-items .ensures .0)), omega (arith, c .before .before .put-items .ensures .1, first .behind, number-line-length (a .args .place) 4 Word.Number (c .before .before .before .before .before .before .before .before .before .n .given .0 .0), size))
+    let first = c .before .before .before .before .before .before .put-number-line .ensures in (
+      puts-same (list-text (a .args .list) (a .args .src .now) (a .args .place) same count)
+          (puts-both 70 (c .before .before .before .before .before .before .put-number-line .ensures) (number-line-length _ _ Word.Number _) (omega (arith, a .pre .3)) (c .before .before .put-items .ensures .0)),
+      omega (arith, c .before .before .put-items .ensures .1, first .behind, number-line-length (a .args .place) 4 Word.Number (c .before .before .before .before .before .before .before .before .before .n .given .0 .0), size),
+    )
 
--- src/item.rt:70:1
 returns-2 : tie.Need-returns-2
 returns-2 c = let a = c .before .before .before .before .before .before in
     let (w, inside, same, size) = judged-part (a .args .list) (a .args .src .now) (a .pre .0) (c .before .before .before .part .ensures) in

@@ -8,33 +8,22 @@ use Rattle.text.proofs.Rows.{puts-left, puts-both, puts-same, number-line-lengt
 use Rattle.listing.proofs.Parts.{number-same}
 use Rattle.listing.proofs.step.put_buffer_lines.Statement.{statement}
 use Rattle.listing.proofs.step.put_buffer_lines.Tie as tie
-use Rattle.listing.proofs.step.put_buffer_lines.Reads as reads
-use Rattle.listing.proofs.step.put_buffer_lines.Lts as lts
-use Rattle.listing.proofs.step.put_span_line.Reads as put-span-line-reads
-use Rattle.text.proofs.line.put_number_line.Reads as put-number-line-reads
-use Rattle.wire.proofs.span.Span.len.Reads as len-reads
 
--- src/step.rt:28:16
 add-body : tie.Need-add-body
 add-body c = omega (arith, c .before .before .pre .1)
 
--- src/step.rt:29:57
 len-requires : tie.Need-len-requires
 len-requires c κs = search needs
 
--- src/step.rt:29:9
 put-number-line-requires : tie.Need-put-number-line-requires
 put-number-line-requires c κs = omega (arith, c .before .before .before .before .pre .2)
 
--- src/step.rt:30:5
 put-span-line-requires : tie.Need-put-span-line-requires
 put-span-line-requires c κs = let a = c .before .before .before .before .before .before .before .before in (a .pre .0, puts-left 70 (c .before .before .before .put-number-line .ensures) (number-line-length _ _ Word.Number _) (50 + 2 * lenOf (a .args .span)) (omega (arith, a .pre .2)))
 
--- src/step.rt:24:1
 same-length : tie.Need-same-length
 same-length c = search needs
 
--- src/step.rt:24:1
 returns : tie.Need-returns
 returns c = let a = c .before .before .before .before .before .before .before .before .before .before .before in
     let first = puts-same (number-same (a .args .place) 2 (c .before .before .before .before .before .before .before .before .len .ensures)) (c .before .before .before .before .before .before .put-number-line .ensures) in

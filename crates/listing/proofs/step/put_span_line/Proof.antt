@@ -8,24 +8,16 @@ use Rattle.text.proofs.Rows.{puts-same}
 use Rattle.listing.proofs.Parts.{part-length, part-line, one-line}
 use Rattle.listing.proofs.step.put_span_line.Statement.{statement}
 use Rattle.listing.proofs.step.put_span_line.Tie as tie
-use Rattle.listing.proofs.step.put_span_line.Reads as reads
-use Rattle.listing.proofs.step.put_span_line.Lts as lts
-use Rattle.text.proofs.line.put_bytes_line.Reads as put-bytes-line-reads
-use Rattle.wire.proofs.span.Span.part.Reads as part-reads
 
--- src/step.rt:20:27
 part-requires : tie.Need-part-requires
 part-requires c κs = search needs
 
--- src/step.rt:20:5
 put-bytes-line-requires : tie.Need-put-bytes-line-requires
 put-bytes-line-requires c κs = let a = c .before .before .before .before in omega (arith, part-length (a .args .span) (a .args .src .now) (a .pre .0) (c .before .part .ensures), a .pre .1)
 
--- src/step.rt:16:1
 same-length : tie.Need-same-length
 same-length c = search needs
 
--- src/step.rt:16:1
 returns : tie.Need-returns
 returns c = let a = c .before .before .before .before .before .before .before in puts-same (part-line (a .args .span) (a .args .src .now) (a .pre .0) (c .before .before .before .before .part .ensures) (a .args .place) ∙ one-line (spanLine (a .args .place) (startOf (a .args .span)) (lenOf (a .args .span)) (a .args .src .now))) (c .before .before .put-bytes-line .ensures)
 

@@ -1,8 +1,7 @@
 -- Each step by its own lines. Assumes nothing.
 use borrow.Author.Needs.{needs}
 use native.Mathlib.Omega.{arith}
-use mathlib.Core.Path.{ap, sym, _∙_, subst}
-use mathlib.Core.List.{_∷_, []}
+use mathlib.Core.Path.{ap, _∙_, subst}
 use lib.ListN.{length}
 use Rattle.wire.specs.Answers.{widthOf}
 use Rattle.plans.specs.Lines.{line}
@@ -14,90 +13,64 @@ use Rattle.listing.specs.Judged.{Owed}
 use Rattle.listing.proofs.Parts.{one-line, span-line-length, buffer-lines-length}
 use Rattle.listing.proofs.step.put_step_lines.Statement.{statement}
 use Rattle.listing.proofs.step.put_step_lines.Tie as tie
-use Rattle.listing.proofs.step.put_step_lines.Reads as reads
-use Rattle.listing.proofs.step.put_step_lines.Lts as lts
-use Rattle.listing.proofs.item.put_list_lines.Reads as put-list-lines-reads
-use Rattle.listing.proofs.step.put_buffer_lines.Reads as put-buffer-lines-reads
-use Rattle.listing.proofs.step.put_span_line.Reads as put-span-line-reads
-use Rattle.text.proofs.line.put_number_line.Reads as put-number-line-reads
-use Rattle.wire.proofs.width.Width.bytes.Reads as bytes-reads
 
--- src/step.rt:60:22
 enum-known-step : tie.Need-enum-known-step
 enum-known-step c = search needs
 
--- src/step.rt:60:64
 bytes-requires : tie.Need-bytes-requires
 bytes-requires c κs = search needs
 
--- src/step.rt:60:41
 put-number-line-requires : tie.Need-put-number-line-requires
 put-number-line-requires c κs = omega (arith, c .before .before .before .before .before .before .before .pre .3)
 
--- src/step.rt:61:24
 enum-known-step-2 : tie.Need-enum-known-step-2
 enum-known-step-2 c = search needs
 
--- src/step.rt:61:33
 put-span-line-requires : tie.Need-put-span-line-requires
 put-span-line-requires c κs = let a = c .before .before .before .before .before .before in let (l, p, s, r) = subst (λ z. Owed z (a .args .src .now) (a .args .place) (a .args .at) (length (a .args .out .now))) (c .before .before .step2 .given .1) (a .pre) in (l, omega arith)
 
--- src/step.rt:62:25
 enum-known-step-3 : tie.Need-enum-known-step-3
 enum-known-step-3 c = search needs
 
--- src/step.rt:62:34
 put-buffer-lines-requires : tie.Need-put-buffer-lines-requires
 put-buffer-lines-requires c κs = let a = c .before .before .before .before .before .before in let (l, p, s, r) = subst (λ z. Owed z (a .args .src .now) (a .args .place) (a .args .at) (length (a .args .out .now))) (c .before .before .step3 .given .1) (a .pre) in (l, omega arith, omega arith)
 
--- src/step.rt:63:26
 enum-known-step-4 : tie.Need-enum-known-step-4
 enum-known-step-4 c = search needs
 
--- src/step.rt:63:35
 put-list-lines-requires : tie.Need-put-list-lines-requires
 put-list-lines-requires c κs = let a = c .before .before .before .before .before .before in let (l, p, s, r) = subst (λ z. Owed z (a .args .src .now) (a .args .place) (a .args .at) (length (a .args .out .now))) (c .before .before .step4 .given .1) (a .pre) in (l, p, s, r)
 
--- src/step.rt:64:27
 enum-told : tie.Need-enum-told
 enum-told c = search needs
 
--- src/step.rt:55:1
 same-length : tie.Need-same-length
 same-length c = search needs
 
--- src/step.rt:55:1
 returns : tie.Need-returns
 returns c = let a = c .before .before .before .before .before .before .before .before .before .before in
     let word = c .before .before .before .before .before .before .step .given .0 .0 in
     let n = c .before .before .before .before .before .before .step .given .0 .1 .1 .0 in
     rw (c .before .before .before .before .before .before .step .given .1) (puts-same (ap (λ w. lineText (line (a .args .place) w (sayWord word n))) (c .before .before .before .before .bytes .ensures) ∙ one-line (line (a .args .place) (widthOf (c .before .before .before .before .before .before .step .given .0 .1 .0)) (sayWord word n))) (c .before .before .put-number-line .ensures), omega (arith, c .before .before .put-number-line .ensures .behind, number-line-length (a .args .place) (c .before .before .before .before .bytes .result) word n))
 
--- src/step.rt:55:1
 same-length-2 : tie.Need-same-length-2
 same-length-2 c = search needs
 
--- src/step.rt:55:1
 returns-2 : tie.Need-returns-2
 returns-2 c = let put = c .before .before .put-span-line .ensures in let a = c .before .before .before .before .before .before .before .before .before in let t = c .before .before .before .before .before .step2 .given .0 .1 .0 in let (l, p, s, r) = subst (λ z. Owed z (a .args .src .now) (a .args .place) (a .args .at) (length (a .args .out .now))) (c .before .before .before .before .before .step2 .given .1) (a .pre) in rw (c .before .before .before .before .before .step2 .given .1) (put, omega (arith, put .behind, span-line-length (a .args .place) t (a .args .src .now) l))
 
--- src/step.rt:55:1
 same-length-3 : tie.Need-same-length-3
 same-length-3 c = search needs
 
--- src/step.rt:55:1
 returns-3 : tie.Need-returns-3
 returns-3 c = let put = c .before .before .put-buffer-lines .ensures in let a = c .before .before .before .before .before .before .before .before .before in let t = c .before .before .before .before .before .step3 .given .0 .1 .0 in let (l, p, s, r) = subst (λ z. Owed z (a .args .src .now) (a .args .place) (a .args .at) (length (a .args .out .now))) (c .before .before .before .before .before .step3 .given .1) (a .pre) in rw (c .before .before .before .before .before .step3 .given .1) (put, omega (arith, put .behind, buffer-lines-length (a .args .place) t (a .args .src .now) l))
 
--- src/step.rt:55:1
 same-length-4 : tie.Need-same-length-4
 same-length-4 c = search needs
 
--- src/step.rt:55:1
 returns-4 : tie.Need-returns-4
 returns-4 c = rw (c .before .before .before .before .before .step4 .given .1) (c .before .before .put-list-lines .ensures)
 
--- src/step.rt:55:1
 returns-5 : tie.Need-returns-5
 returns-5 c = rw (c .enum-told .given .1) (puts-none _ _, omega arith)
 

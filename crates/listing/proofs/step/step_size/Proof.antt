@@ -1,73 +1,54 @@
 -- Each step's size by its own field. Assumes nothing.
 use borrow.Author.Needs.{needs}
 use native.Mathlib.Omega.{arith}
-use mathlib.Core.Path.{ap, _∙_, subst}
+use mathlib.Core.Path.{ap, subst}
 use Prim.Native.Nat.{_+_, _≤_}
 use Rattle.listing.specs.Judged.{stepSize}
 use Rattle.listing.proofs.step.step_size.Statement.{statement}
 use Rattle.listing.proofs.step.step_size.Tie as tie
-use Rattle.listing.proofs.step.step_size.Reads as reads
-use Rattle.listing.proofs.step.step_size.Lts as lts
-use Rattle.wire.proofs.span.Span.len.Reads as len-reads
-use Rattle.wire.proofs.width.Width.bytes.Reads as bytes-reads
 
--- src/step.rt:43:25
 enum-known-step : tie.Need-enum-known-step
 enum-known-step c = search needs
 
--- src/step.rt:43:38
 bytes-requires : tie.Need-bytes-requires
 bytes-requires c κs = search needs
 
--- src/step.rt:44:24
 enum-known-step-2 : tie.Need-enum-known-step-2
 enum-known-step-2 c = search needs
 
--- src/step.rt:44:33
 len-requires : tie.Need-len-requires
 len-requires c κs = search needs
 
--- src/step.rt:45:25
 enum-known-step-3 : tie.Need-enum-known-step-3
 enum-known-step-3 c = search needs
 
--- src/step.rt:46:17
 len-requires-2 : tie.Need-len-requires-2
 len-requires-2 c κs = search needs
 
--- src/step.rt:47:13
 add-result : tie.Need-add-result
 add-result c = let small = subst (λ z. stepSize z ≤ 0x10000) (c .before .before .step3 .given .1) (c .before .before .before .before .pre) in omega (arith, c .len2 .ensures)
 
--- src/step.rt:49:26
 enum-known-step-4 : tie.Need-enum-known-step-4
 enum-known-step-4 c = search needs
 
--- src/step.rt:49:35
 len-requires-3 : tie.Need-len-requires-3
 len-requires-3 c κs = search needs
 
--- src/step.rt:50:27
 enum-told : tie.Need-enum-told
 enum-told c = search needs
 
--- src/step.rt:38:1
 returns : tie.Need-returns
 returns c = rw (c .before .before .step .given .1) (c .bytes .ensures)
 
--- src/step.rt:38:1
 returns-2 : tie.Need-returns-2
 returns-2 c = search needs
 
--- src/step.rt:38:1
 returns-3 : tie.Need-returns-3
 returns-3 c = rw (c .before .before .step3 .given .1) (ap (λ n. 2 + n) (c .len2 .ensures))
 
--- src/step.rt:38:1
 returns-4 : tie.Need-returns-4
 returns-4 c = search needs
 
--- src/step.rt:38:1
 returns-5 : tie.Need-returns-5
 returns-5 c = search needs
 
