@@ -103,8 +103,8 @@ linesOf (s ∷ ss) src at = stepLines s src at ++ linesOf ss src (at + length (l
 
 -- ---- plans of a record
 
--- The steps ss write what the layout l writes of the parts ps, and have their byte fields and the lists ls. The parts have the layout's
--- shape: no step stands for an answer that no record of the code has
+-- The steps ss write what the layout l writes of the parts ps, have their byte fields and the lists ls, and, where something is written,
+-- their lines. The parts have the layout's shape: no step stands for an answer that no record of the code has
 pub record Plans (l : Layout) (ps ls : List Part) (ss : List Step) : Type 0 where
   pub lays : (src : List ℕ) (at : ℕ) → lay l ps src at ≡ spell ss src at
   pub shaped : Shaped l ps
