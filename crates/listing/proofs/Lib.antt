@@ -1,3 +1,4 @@
+pub mod Deposits
 pub mod Parts
 pub mod Itemized
 pub mod Planned

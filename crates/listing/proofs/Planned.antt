@@ -72,8 +72,11 @@ listed-none count cells old src at legal =
 
 module _ {count : ℕ} {cells : List Cell} {all old src : List ℕ} {at : ℕ} {out : List ℕ} {place end i : ℕ} (p : Listed count cells all old src at out place end i)
     (cells-all : length cells ≡ 24) (most : count + 0 ≤ 24) (small : length all ≤ 0x10000) (space : at + (74640 + 2 * length all) ≤ length old) where
+  pub listed-near : end ≤ at + (74640 + 2 * length all)
+  listed-near = omega (arith, p .most, p .size, p .room)
+
   pub listed-length : end ≤ length old
-  listed-length = omega (arith, p .most, p .size, p .room)
+  listed-length = omega (arith, listed-near)
 
   module _ (h : i < count) where
     step : Step

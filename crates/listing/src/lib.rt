@@ -1,3 +1,4 @@
-// The listing of a record: its steps as lines of text, in a lent slice.
+// The listing of a deposit: its record's steps as lines of text, in a lent slice.
+pub mod deposit;
 pub mod item;
 pub mod step;

@@ -10,7 +10,7 @@ use Rattle.plans.specs.Steps.{sayWord}
 use Rattle.plans.specs.Walked.{Puts}
 use Rattle.plans.proofs.Putting.{puts-then, puts-length}
 use Rattle.text.specs.Ascii.{ascii}
-use Rattle.text.specs.Text.{decimal, hex, wordText, sayText, lineText}
+use Rattle.text.specs.Text.{decimal, hex, wordText, sayText, lineText, readText, refusedText}
 use Rattle.text.proofs.Decimals.{decimal-length}
 use Rattle.text.proofs.Hexes.{hex-length}
 
@@ -71,6 +71,24 @@ bytes-line-length place size xs =
 
 pub said-length : (w : List ℕ) (n k : ℕ) → length w ≤ k → length (w ++ decimal n) ≤ k + 20
 said-length w n k h = omega (arith, length-append w (decimal n), decimal-length n)
+
+said-behind : (w : List ℕ) (n : ℕ) (rest : List ℕ) (j m : ℕ) → length w ≤ j → length rest ≤ m → length (w ++ (decimal n ++ rest)) ≤ j + (20 + m)
+said-behind w n rest j m few more = omega (arith, length-append w (decimal n ++ rest), length-append (decimal n) rest, decimal-length n)
+
+pub read-text-length : (k e t : ℕ) → length (readText k e t) ≤ 78
+read-text-length k e t =
+    said-behind (ascii "kind ") k _ 5 53 (omega arith)
+    (said-behind (ascii " read ") e _ 6 27 (omega arith)
+    (said-behind (ascii " tail ") t _ 6 1 (omega arith)
+    (omega arith)))
+
+pub refused-text-length : (k n p v : ℕ) → length (refusedText k n p v) ≤ 106
+refused-text-length k n p v =
+    said-behind (ascii "kind ") k _ 5 81 (omega arith)
+    (said-behind (ascii " refused ") n _ 9 52 (omega arith)
+    (said-behind (ascii " at ") p _ 4 28 (omega arith)
+    (said-behind (ascii " value ") v _ 7 1 (omega arith)
+    (omega arith))))
 
 pub said : (w d : List ℕ) {rest all : List ℕ} → rest ≡ all → (w ++ d) ++ rest ≡ w ++ (d ++ all)
 said w d {rest} e = append-assoc w d rest ∙ ap (λ x. w ++ (d ++ x)) e

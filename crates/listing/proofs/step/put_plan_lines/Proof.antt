@@ -5,7 +5,7 @@ use Rattle.wire.specs.Writing.{partOf}
 use Rattle.plans.specs.Steps.{steps, spell}
 use Rattle.plans.proofs.Loops.{from}
 use Rattle.plans.proofs.Putting.{puts-length}
-use Rattle.listing.proofs.Planned.{Listed, listed-none, listed-length, listed-owed, listed-more, listed-all}
+use Rattle.listing.proofs.Planned.{Listed, listed-none, listed-near, listed-length, listed-owed, listed-more, listed-all}
 use Rattle.listing.proofs.step.put_plan_lines.Statement.{statement}
 use Rattle.listing.proofs.step.put_plan_lines.Tie as tie
 
@@ -55,7 +55,7 @@ same-length c = let a = c .before .before .before .before .before in let l = c .
 
 returns : tie.Need-returns Inv-loop μ-loop
 unfolding steps
-returns c = let a = c .before .before .before .before .before in listed-all (c .before .loop .inv) (a .pre .0 .all) (a .pre .0 .left) (a .pre .2) (a .pre .4) (omega arith)
+returns c = let a = c .before .before .before .before .before in let l = c .before .loop in (listed-all (l .inv) (a .pre .0 .all) (a .pre .0 .left) (a .pre .2) (a .pre .4) (omega arith), listed-near (l .inv) (a .pre .0 .all) (a .pre .0 .left) (a .pre .2) (a .pre .4))
 
 pub put-plan-lines-spec : {M : Type 1} → statement M
 put-plan-lines-spec =

@@ -1,0 +1,149 @@
+-- From what is answered of a record to its listing. Assumes nothing.
+use Prim.Native.Nat.{ℕ, _+_, _*_, _-_, _≤_, _<_}
+use native.Mathlib.Omega.{arith}
+use borrow.Author.Tests.{le-leb, lt-leb, lt-ltb}
+use mathlib.Core.Path.{_≡_, refl, sym, ap, _∙_}
+use mathlib.Core.Bool.{Bool, true, false, cond}
+use mathlib.Core.List.{List, [], _∷_, _++_}
+use lib.ListN.{length, take, drop, getD}
+use lib.Seq.{length-take-le, take-all}
+use Rattle.wire.specs.declared.fault.Refusal.{Refusal}
+use Rattle.wire.specs.declared.measure.Measure.{Measure}
+use Rattle.wire.specs.Bytes.{Bytes}
+use Rattle.wire.specs.Faults.{paper, noRoom, badKind, oversize}
+use Rattle.wire.specs.Reading.{Part, found, refused, when, Parsed, parsed, read}
+use Rattle.wire.specs.Writing.{lay, partOf}
+use Rattle.wire.proofs.Steps.{when-found}
+use Rattle.wire.proofs.Written.{read-then-lay}
+use Rattle.kinds.specs.Kinds.{isKind, layoutOf, readKind}
+use Rattle.plans.specs.declared.plan.Plan.{Plan}
+use Rattle.plans.specs.Lines.{lines}
+use Rattle.plans.specs.Steps.{steps, Room, spell, linesOf}
+use Rattle.plans.specs.Walked.{Legal, Puts}
+use Rattle.plans.proofs.Putting.{puts-length}
+use Rattle.records.proofs.Rewritten.{read-record-lies-in-its-source}
+use Rattle.by_kind.specs.Planned.{Planned}
+use Rattle.by_kind.specs.declared.kind.PlanRead.{PlanRead}
+use Rattle.text.specs.Text.{linesText, readText, refusedText}
+use Rattle.text.proofs.Rows.{puts-both, puts-same, read-text-length, refused-text-length}
+use Rattle.listing.specs.Listing.{judged, answerText, recordText, listing, Lists}
+
+-- ---- what is answered
+
+-- a number from 1 to 14 is a kind
+pub is-kind : (k : ℕ) → 0 < k → k ≤ 14 → isKind k ≡ true
+is-kind k some most = rw (lt-ltb 0 k some, le-leb k 14 most)
+
+pub no-kind-unread : (k : ℕ) {j : ℕ} {f : Refusal} → f ≡ badKind j → j ≡ k → isKind k ≡ false → f ≡ cond (isKind k) oversize (badKind k)
+no-kind-unread k e same none = rw (none, e, same)
+
+pub kind-unread : (k : ℕ) {f : Refusal} → f ≡ oversize → isKind k ≡ true → f ≡ cond (isKind k) oversize (badKind k)
+kind-unread k e some = rw (some, e)
+
+-- a record that is not too long is answered as its reader does
+judged-read : (k : ℕ) (bs : List ℕ) → length bs ≤ 4096 → judged k bs ≡ readKind k bs 0
+unfolding judged readKind
+judged-read k bs few = rw (le-leb (length bs) 4096 few)
+
+pub judged-refused : (k : ℕ) (bs : List ℕ) {r : PlanRead} {f : Refusal} → length bs ≤ 4096 → Planned k bs r → r .end ≡ Measure.No f → judged k bs ≡ refused f
+judged-refused k bs few p given = judged-read k bs few ∙ p .refusal given
+
+-- one that is too long is not read
+pub judged-unread : (k : ℕ) (bs : List ℕ) → 4096 < length bs → judged k bs ≡ refused (cond (isKind k) oversize (badKind k))
+unfolding judged
+judged-unread k bs many = rw (lt-leb (length bs) 4096 many) (by (isKind k))
+  where
+    by : (b : Bool) → when {A = Parsed} b (refused oversize) (refused (badKind k)) ≡ refused (cond b oversize (badKind k))
+    by true = refl
+    by false = refl
+
+-- ---- what is listed
+
+refused-listed : (k : ℕ) (bs : List ℕ) {f : Refusal} → judged k bs ≡ refused f → refusedText k (paper (f .fault) .number) (f .place) (f .value) ≡ recordText k bs
+unfolding recordText
+refused-listed k bs e = ap (λ a. answerText k bs a) (sym e)
+
+-- the line of a refusal is put, and is all that is listed
+pub refusal-listed : (k : ℕ) (bs : List ℕ) {f : Refusal} {old : List ℕ} {r : ℕ} {last : List ℕ} → judged k bs ≡ refused f
+    → Puts 0 (refusedText k (paper (f .fault) .number) (f .place) (f .value)) old r last → Puts 0 (recordText k bs) old r last × (r ≤ 98304)
+refusal-listed k bs {f} e p = (puts-same (refused-listed k bs e) p, omega (arith, p .behind, refused-text-length k (paper (f .fault) .number) (f .place) (f .value)))
+
+-- the plan is that of a record that was read from bs, ends at e, and can be listed
+pub record ReadAs (k : ℕ) (bs : List ℕ) (plan : Plan) (e : ℕ) : Type 0 where
+  pub text : readText k e (length bs - e) ++ linesText (linesOf (steps plan) bs 0) ≡ recordText k bs
+  pub inside : e ≤ length bs
+  pub room : Room 0 plan
+  pub legal : Legal (spell (steps plan) bs 0)
+  pub few : length (partOf (spell (steps plan) bs 0)) ≤ 4096
+
+kind-read : (k : ℕ) (bs : List ℕ) {ps : List Part} {e : ℕ} → readKind k bs 0 ≡ parsed ps e → read (layoutOf k) bs 0 ≡ parsed ps e
+unfolding readKind
+kind-read k bs p = when-found (isKind k) _ _ p .1
+
+read-listed : (k : ℕ) (bs : List ℕ) {ps : List Part} {e : ℕ} → judged k bs ≡ parsed ps e
+    → readText k e (length bs - e) ++ linesText (lines (layoutOf k) ps bs 0) ≡ recordText k bs
+unfolding recordText
+read-listed k bs e = ap (λ a. answerText k bs a) (sym e)
+
+pub read-as : (k : ℕ) (bs : List ℕ) {r : PlanRead} {e : ℕ} → Bytes bs → length bs ≤ 4096 → Planned k bs r → r .end ≡ Measure.Size e → ReadAs k bs (r .plan) e
+read-as k bs {r} {e} b short p given =
+    let (ps, answer, of) = p .plan given in
+    let there = kind-read k bs answer in
+    let (some, inside) = read-record-lies-in-its-source k bs 0 b there in
+    let laid : lay (layoutOf k) ps bs 0 ≡ found (take (e - 0) (drop 0 bs)) = read-then-lay (layoutOf k) bs 0 0 (record { parts = ps; stops = e }) b (omega arith) there in
+    let spelled : spell (steps (r .plan)) bs 0 ≡ found (take (e - 0) (drop 0 bs)) = of .spells bs ∙ laid in
+    record {
+      text = ap (λ ls. readText k e (length bs - e) ++ linesText ls) (of .shows bs _ laid) ∙ read-listed k bs (judged-read k bs short ∙ answer);
+      inside = inside;
+      room = of .room;
+      legal = spelled ∙ ap found (sym (ap partOf spelled));
+      few = omega (arith, ap (λ a. length (partOf a)) spelled, length-take-le (e - 0) bs (omega arith));
+    }
+
+module _ {k : ℕ} {bs : List ℕ} {plan : Plan} {e : ℕ} (read : ReadAs k bs plan e) {old mid : List ℕ} {m : ℕ} (put : Puts 0 (readText k e (length bs - e)) old m mid) (room : 98304 ≤ length old) where
+  near : m ≤ 78
+  near = omega (arith, put .behind, read-text-length k e (length bs - e))
+
+  -- behind the first line there is room for the others
+  pub lines-room : m + (74640 + 2 * length (partOf (spell (steps plan) bs 0))) ≤ length mid
+  lines-room = omega (arith, near, read .few, puts-length (omega (arith, near)) put)
+
+  -- and with them all is listed
+  pub record-listed : {r : ℕ} {last : List ℕ} → Puts m (linesText (linesOf (steps plan) bs 0)) mid r last → r ≤ m + (74640 + 2 * length (partOf (spell (steps plan) bs 0)))
+      → Puts 0 (recordText k bs) old r last × (r ≤ 98304)
+  record-listed rest most = (puts-same (read .text) (puts-both 78 put (read-text-length k e (length bs - e)) (omega arith) rest), omega (arith, near, read .few))
+
+-- ---- what is owed
+
+-- no byte at all is kind 0
+pub empty-listing : (d : List ℕ) → length d ≡ 0 → recordText 0 d ≡ listing d
+unfolding listing
+empty-listing [] e = refl
+empty-listing (k ∷ bs) e = absurd (omega arith)
+
+-- a first byte is the kind
+pub kind-listing : (d : List ℕ) → 0 < length d → recordText (getD d 0 0) (take (length d - 1) (drop 1 d)) ≡ listing d
+unfolding listing
+kind-listing [] some = absurd (omega arith)
+kind-listing (k ∷ bs) some = ap (λ xs. recordText k xs) (take-all (length (k ∷ bs) - 1) bs (omega arith))
+
+pub listed : (d : List ℕ) {text old : List ℕ} {r : ℕ} {last : List ℕ} → text ≡ listing d → 98304 ≤ length old → Puts 0 text old r last × (r ≤ 98304) → Lists d old (Measure.Size r) last
+listed d {text} {old} {r} {last} same room (p, most) =
+    let there : Puts 0 (listing d) old r last = puts-same same p in
+    let enough = le-leb 98304 (length old) room in
+    let size : r ≡ length (listing d) = omega (arith, there .behind) in
+    let front : 0 + length (listing d) ≡ length (listing d) = omega arith in
+    record {
+      answer = ap found size ∙ rw enough;
+      buffer = there .holds ∙ ap (λ n. listing d ++ drop n old) front ∙ rw enough;
+      fits = λ h. omega (arith, there .behind);
+    }
+
+pub not-listed : (d old : List ℕ) {f : Refusal} → f ≡ noRoom 0 98304 → length old < 98304 → Lists d old (Measure.No f) old
+not-listed d old e small =
+    let short = lt-leb 98304 (length old) small in
+    record {
+      answer = ap refused e ∙ rw short;
+      buffer = rw short;
+      fits = λ h. absurd (omega arith);
+    }

@@ -1,0 +1,46 @@
+-- What is listed of a deposit: a kind byte, and then the record. Assumes nothing.
+use Prim.Native.Nat.{ℕ, _-_, _≤_}
+use mathlib.Core.Path.{_≡_}
+use mathlib.Core.Bool.{cond}
+use mathlib.Core.List.{List, [], _∷_, _++_}
+use lib.ListN.{length, drop}
+use lib.Dec.{leb}
+use Rattle.wire.specs.declared.measure.Measure.{Measure}
+use Rattle.wire.specs.Answers.{measureAnswer}
+use Rattle.wire.specs.Faults.{paper, noRoom, badKind, oversize}
+use Rattle.wire.specs.Reading.{Ans, found, refused, when, Parsed, read}
+use Rattle.kinds.specs.Kinds.{isKind, layoutOf}
+use Rattle.plans.specs.Lines.{lines}
+use Rattle.text.specs.Text.{linesText, readText, refusedText}
+
+-- what is answered of a record: a number that is no kind is refused first, then more than 4,096 bytes, and what is left is read
+unfoldable pub judged : (kind : ℕ) (bytes : List ℕ) → Ans Parsed
+judged k bs =
+    when (isKind k)
+    (when (leb (length bs) 4096)
+    (read (layoutOf k) bs 0)
+    (refused oversize))
+    (refused (badKind k))
+
+-- the text of an answer: of a record that was read, where it ends, how many bytes are left behind it, and the lines of its fields; of a
+-- refusal, its number, place and value
+abbrev pub answerText : (kind : ℕ) (bytes : List ℕ) → Ans Parsed → List ℕ
+answerText k bs (found r) = readText k (r .stops) (length bs - r .stops) ++ linesText (lines (layoutOf k) (r .parts) bs 0)
+answerText k bs (refused f) = refusedText k (paper (f .fault) .number) (f .place) (f .value)
+
+unfoldable pub recordText : (kind : ℕ) (bytes : List ℕ) → List ℕ
+recordText k bs = answerText k bs (judged k bs)
+
+-- the listing of a deposit; places count from the record's first byte, and no byte at all counts as kind 0
+unfoldable pub listing : List ℕ → List ℕ
+listing [] = recordText 0 []
+listing (k ∷ bs) = recordText k bs
+
+-- What is owed to whoever has a deposit listed into a lent slice, which held old before and holds last now; r was answered
+pub record Lists (deposit old : List ℕ) (r : Measure) (last : List ℕ) : Type 0 where
+  -- how long the listing is, or that the slice is smaller than what every listing fits into
+  pub answer : measureAnswer r ≡ when (leb 98304 (length old)) (found (length (listing deposit))) (refused (noRoom 0 98304))
+  -- the listing and then what was there, or all that was there
+  pub buffer : last ≡ cond (leb 98304 (length old)) (listing deposit ++ drop (length (listing deposit)) old) old
+  -- where there is room, no listing is longer
+  pub fits : 98304 ≤ length old → length (listing deposit) ≤ 98304

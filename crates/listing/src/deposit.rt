@@ -1,0 +1,68 @@
+// The listing of a deposit: a kind byte, and then the record.
+use crate::step::put_plan_lines;
+use by_kind::kind::plan_of;
+use text::answer::put_read_line;
+use text::answer::put_refusal_line;
+use wire::fault::Refusal;
+use wire::measure::Measure;
+ghost use mathlib.Core.Path.{_≡_};
+ghost use mathlib.Core.Bool.{cond};
+ghost use Prim.Native.Nat.{_≤_};
+ghost use lib.ListN.{length};
+ghost use Rattle.wire.specs.Faults.{badKind, oversize};
+ghost use Rattle.kinds.specs.Kinds.{isKind};
+ghost use Rattle.plans.specs.Walked.{Puts};
+ghost use Rattle.listing.specs.Listing.{recordText, Lists};
+
+// A slice of so many bytes has room for every listing.
+pub const LISTING_ROOM: usize = 98304;
+
+// What is refused of a record of more than 4,096 bytes: its kind, if there is none of that number, and else its size.
+fn refused_unread(kind: u8) -> Refusal
+    ensures { λ r. ⌜ r ≡ cond (isKind kind) oversize (badKind kind) ⌝ }
+{
+    if kind == 0 {
+        return Refusal::bad_kind(0);
+    }
+    if kind > 14 {
+        return Refusal::bad_kind(kind as u64);
+    }
+    Refusal::oversize()
+}
+
+// The listing of a record of that kind, at the start of out.
+fn put_record(kind: u8, bytes: &[u8], out: &mut [u8]) -> usize
+    requires { ⌜ 98304 ≤ length (now out) ⌝ }
+    ensures { λ r. ⌜ Puts 0 (recordText kind (now (bytes .entry))) (now (out .entry)) r (now (out .exit)) × (r ≤ 98304) ⌝ }
+{
+    if bytes.len() > 4096 {
+        return put_refusal_line(kind, refused_unread(kind), out, 0);
+    }
+    let answer = plan_of(kind, bytes);
+    let plan = answer.plan;
+    let end = answer.end;
+    match end {
+        Measure::Size(stop) => {
+            let tail = bytes.len() - stop;
+            let first = put_read_line(kind, stop, tail, out, 0);
+            put_plan_lines(plan, bytes, out, first)
+        }
+        Measure::No(f) => put_refusal_line(kind, f, out, 0),
+    }
+}
+
+// The listing of a deposit at the start of out, and how long it is. Where out is smaller than LISTING_ROOM, that is refused and out
+// is left as it was.
+pub fn list_deposit(deposit: &[u8], out: &mut [u8]) -> Measure
+    ensures { λ r. ⌜ Lists (now (deposit .entry)) (now (out .entry)) r (now (out .exit)) ⌝ }
+{
+    if out.len() < LISTING_ROOM {
+        return Measure::No(Refusal::no_room(0, LISTING_ROOM));
+    }
+    if deposit.len() == 0 {
+        return Measure::Size(put_record(0, deposit, out));
+    }
+    let kind = deposit[0];
+    let bytes = &deposit[1..];
+    Measure::Size(put_record(kind, bytes, out))
+}
