@@ -5,7 +5,8 @@ use borrow.Author.Tests.{le-leb, lt-leb, lt-ltb}
 use mathlib.Core.Path.{_≡_, refl, sym, ap, _∙_}
 use mathlib.Core.Bool.{Bool, true, false, cond}
 use mathlib.Core.List.{List, [], _∷_, _++_}
-use lib.ListN.{length, take, drop, getD}
+use lib.ListN.{length, take, drop, getD, length-append}
+use lib.Dec.{leb}
 use lib.Seq.{length-take-le, take-all}
 use Rattle.wire.specs.declared.fault.Refusal.{Refusal}
 use Rattle.wire.specs.declared.measure.Measure.{Measure}
@@ -13,7 +14,9 @@ use Rattle.wire.specs.Bytes.{Bytes}
 use Rattle.wire.specs.Faults.{paper, noRoom, badKind, oversize}
 use Rattle.wire.specs.Reading.{Part, found, refused, when, Parsed, parsed, read}
 use Rattle.wire.specs.Writing.{lay, partOf}
-use Rattle.wire.proofs.Steps.{when-found}
+use Rattle.wire.specs.Answers.{measureAnswer}
+use Rattle.wire.proofs.Rest.{told}
+use Rattle.wire.proofs.Steps.{found-refused, found-same, when-found}
 use Rattle.wire.proofs.Written.{read-then-lay}
 use Rattle.kinds.specs.Kinds.{isKind, layoutOf, readKind}
 use Rattle.plans.specs.declared.plan.Plan.{Plan}
@@ -147,3 +150,14 @@ not-listed d old e small =
       buffer = rw short;
       fits = λ h. absurd (omega arith);
     }
+
+-- a listing lies in what was lent for it
+pub listed-inside : {d old last : List ℕ} {r : Measure} {n : ℕ} → Lists d old r last → r ≡ Measure.Size n → n ≤ length last
+listed-inside {d} {old} {last} {r} {n} lists given = by (leb 98304 (length old)) refl
+  where
+    by : (b : Bool) → leb 98304 (length old) ≡ b → n ≤ length last
+    by true room =
+        let size : n ≡ length (listing d) = found-same (told measureAnswer given (lists .answer) ∙ rw room) in
+        let held : last ≡ listing d ++ drop (length (listing d)) old = lists .buffer ∙ rw room in
+        omega (arith, ap length held, length-append (listing d) (drop (length (listing d)) old))
+    by false room = absurd (found-refused {x = n} {f = noRoom 0 98304} (sym (told measureAnswer given (lists .answer) ∙ rw room)))
