@@ -1,0 +1,20 @@
+"""The text of an answer, as docs/FORMAT.md, section 11, has it."""
+
+SHORT, UNKNOWN_CODE, NO_ARM, TOO_LONG, TOO_MANY_ITEMS, BAD_VALUE = 1, 2, 3, 4, 5, 6
+BAD_KIND, OVERSIZE = 12, 13
+
+
+def refused(kind, number, place, value):
+    return f'kind {kind} refused {number} at {place} value {value}\n'
+
+
+def read(kind, fields, tail):
+    """The listing of a record that was read: its first line, and a line for each field."""
+    lines = [f'kind {kind} read {fields[-1].end} tail {tail}']
+    lines += [f'{f.place} {f.size} {f.what} {f.value if f.value != "" else "-"}' for f in fields]
+    return '\n'.join(lines) + '\n'
+
+
+def again(data):
+    """The line for the bytes that the writer gives for the record that was read."""
+    return f'again {data.hex()}\n'

@@ -1,0 +1,122 @@
+"""Codes tried one after another, in short records: as each union's selector, and where a code chooses nothing.
+
+These answers come from the tables alone: no decoded record has all of these codes.
+"""
+
+from typing import NamedTuple
+
+import answers
+import damage
+import tables
+from records import Field, Record
+from tables import CODE, LIST, NULL, buffer, number
+
+ALGORITHMS_TRIED = [*range(0x50), 0x0104, 0x0110, 0x1000, 0x8014, 0x8018, 0xFFFF]
+TYPES_TRIED = [*range(0x8000, 0x8030), 0x0010, 0x0014, 0x0018, 0x1480, 0x7F18, 0x8118, 0xFFFF]
+REFUSED = 'code tried, refused'
+
+
+class Place(NamedTuple):
+    """Where a code is tried. Its parts are those of the tables, or fields: word, size and value."""
+    kind: int
+    ahead: tuple  # the parts ahead of the code
+    between: tuple = ()  # those between the code and the arms that it chooses
+    unions: tuple = ()  # what it chooses from; none for a code that chooses nothing
+    behind: tuple = ()  # the parts that follow
+    listed: list = tables.ALGORITHMS
+    tried: list = ALGORITHMS_TRIED
+
+
+def code(number_given):
+    return ('code', 2, number_given)
+
+
+def filled(part):
+    """A part as fields: Null for a code, 1 for a number, a byte in a buffer, no item in a list."""
+    if len(part) == 3:
+        return [part]
+    what, size = part
+    if what == 'buffer':
+        return [('number', 2, 1), ('bytes', 1, 'a5')]
+    fillings = {'code': NULL, 'number': 1, 'bytes': damage.PATTERN[:size].hex()}
+    return [('number', 4, 0) if part == LIST else (what, size, fillings[what])]
+
+
+def built(kind, parts):
+    """The record that has these parts, each filled."""
+    fields, data = [], b''
+    for what, size, shown in (field for part in parts for field in filled(part)):
+        piece = bytes.fromhex(shown) if what == 'bytes' else shown.to_bytes(size, 'big')
+        fields.append(Field(len(data), size, what, shown))
+        data += piece
+    return Record('built', kind, data, tuple(fields))
+
+
+ATTEST_FRONT = (('number', 4, tables.MAGIC),)
+ATTEST_MIDDLE = (buffer(tables.NAME), buffer(tables.DATA), *tables.CLOCK_INFO, number(8))
+PUBLIC_MIDDLE = (CODE, number(4), buffer(tables.DIGEST))
+SENSITIVE_MIDDLE = (buffer(tables.AUTH), buffer(tables.DIGEST))
+RSA, ECC = code(tables.RSA), code(tables.ECC)
+COMMAND_AUDIT = (*ATTEST_FRONT, code(tables.COMMAND_AUDIT), *ATTEST_MIDDLE, number(8))
+QUOTE_ITEM = (*ATTEST_FRONT, code(tables.QUOTE), *ATTEST_MIDDLE, ('number', 4, 1))
+NO_BITS = (('number', 1, 0), ('bytes', 0, ''))
+
+SELECTORS = [
+    *(Place(kind, (), (), (tables.UNION_OF_KIND[kind],)) for kind in range(1, 11)),
+    Place(9, (code(tables.KEYEDHASH),), (), ('keyed hash',)),
+    Place(9, (code(tables.SYMCIPHER),), (), ('cipher',)),
+    Place(9, (RSA,), (), ('cipher',), (CODE, number(2), number(4))),
+    Place(9, (RSA, CODE), (), ('asymmetric',), (number(2), number(4))),
+    Place(9, (ECC,), (), ('cipher',), (CODE, CODE, CODE)),
+    Place(9, (ECC, CODE), (), ('asymmetric',), (CODE, CODE)),
+    Place(9, (ECC, CODE, CODE, CODE), (), ('kdf',)),
+    Place(10, (code(tables.HMAC),), (), ('digest',)),
+    Place(11, (), PUBLIC_MIDDLE, ('parameters', 'unique')),
+    Place(12, (), SENSITIVE_MIDDLE, ('sensitive',)),
+    Place(13, ATTEST_FRONT, ATTEST_MIDDLE, ('attestation',), (), tables.ATTESTATION_TYPES, TYPES_TRIED),
+]
+
+PLAIN_CODES = [
+    Place(2, (code(tables.AES), number(2))),
+    Place(2, (code(tables.XOR),), behind=(CODE,)),
+    Place(2, (code(tables.XOR), CODE)),
+    Place(3, (code(tables.MGF1),)),
+    Place(4, (code(tables.HMAC),)),
+    Place(4, (code(tables.XOR),), behind=(CODE,)),
+    Place(4, (code(tables.XOR), CODE)),
+    Place(5, (code(tables.RSASSA),)),
+    Place(6, (code(tables.OAEP),)),
+    Place(7, (code(tables.ECDSA),)),
+    Place(8, (code(tables.OAEP),)),
+    Place(9, (ECC, CODE, CODE), behind=(CODE,), listed=tables.CURVES),
+    Place(10, (code(tables.RSAPSS),), behind=(buffer(tables.RSA_PUBLIC),)),
+    Place(10, (code(tables.ECDSA),), behind=(buffer(tables.ECC_PARAMETER), buffer(tables.ECC_PARAMETER))),
+    Place(11, (code(NULL),), behind=(number(4), buffer(tables.DIGEST))),
+    Place(13, COMMAND_AUDIT, behind=(buffer(tables.DIGEST), buffer(tables.DIGEST))),
+    Place(13, QUOTE_ITEM, behind=(*NO_BITS, buffer(tables.DIGEST))),
+    Place(14, (('number', 4, 1),), behind=NO_BITS),
+]
+
+
+def tried(place, number_tried):
+    """One code in one place: refused; or read, and refused when it is cut right where the arm is due."""
+    chosen = [tables.ARMS[union].get(number_tried) for union in place.unions]
+    arms = [part for arm in chosen if arm for part in arm]
+    front = (*place.ahead, code(number_tried), *place.between)
+    due = len(built(place.kind, front).data)
+    record = built(place.kind, (*front, *arms, *place.behind))
+    if number_tried not in place.listed:
+        at = len(built(place.kind, place.ahead).data)
+        yield damage.refused(REFUSED, place.kind, record.data, (answers.UNKNOWN_CODE, at, number_tried))
+    elif None in chosen:
+        yield damage.refused(REFUSED, place.kind, record.data, (answers.NO_ARM, due, number_tried))
+    else:
+        yield damage.whole('code tried, read', record)
+        if len(record.data) > due:
+            yield ('code tried, cut', *damage.cut_at(record, due)[1:])
+
+
+def sweeps():
+    for place in SELECTORS + PLAIN_CODES:
+        for number_tried in place.tried:
+            yield from tried(place, number_tried)

@@ -1,0 +1,164 @@
+"""The lists, arms and limits of docs/FORMAT.md (sections 3 to 7), written out by hand.
+
+They say which codes a copy may be damaged with, and what a selector or a length is then refused for.
+No bytes are parsed with them: where a record's fields stand is known from its decoded fields alone.
+"""
+
+
+def codes(ranges):
+    """The codes of a list such as '01, 03-08', in rising order."""
+    listed = []
+    for piece in ranges.split(', '):
+        first, _, last = piece.partition('-')
+        listed.extend(range(int(first, 16), int(last or first, 16) + 1))
+    return listed
+
+
+ALGORITHMS = codes('01, 03-08, 0A-0D, 10, 12-1D, 20-23, 25-2E, 3F-44')
+CURVES = codes('0-5, 10, 11, 20, 30-32, 40, 41')
+ATTESTATION_TYPES = codes('8014, 8015, 8016, 8017, 8018, 8019, 801A, 801C')
+
+# On none of the three lists: neighbours of listed codes, listed ones with a bit added, the ends of the range.
+UNLISTED = codes('09, 0E, 0F, 1E, 1F, 24, 2F, 45, FF, 0104, 0110, 7FFF, 8000, 8013, 801B, 801D, 8021, FFFF')
+
+RSA, SHA1, HMAC, AES, MGF1, KEYEDHASH = 0x01, 0x04, 0x05, 0x06, 0x07, 0x08
+XOR, SHA256, SHA384, SHA512, NULL = 0x0A, 0x0B, 0x0C, 0x0D, 0x10
+SM3_256, SM4, RSASSA, RSAES, RSAPSS, OAEP = 0x12, 0x13, 0x14, 0x15, 0x16, 0x17
+ECDSA, ECDH, ECDAA, SM2, ECSCHNORR, ECMQV = 0x18, 0x19, 0x1A, 0x1B, 0x1C, 0x1D
+KDF1_SP800_56A, KDF2, KDF1_SP800_108, ECC = 0x20, 0x21, 0x22, 0x23
+SYMCIPHER, CAMELLIA, SHA3_256, SHA3_384, SHA3_512 = 0x25, 0x26, 0x27, 0x28, 0x29
+SHAKE256_192, SHAKE256_256, SHAKE256_512 = 0x2C, 0x2D, 0x2E
+NV, COMMAND_AUDIT, SESSION_AUDIT, CERTIFY = 0x8014, 0x8015, 0x8016, 0x8017
+QUOTE, TIME, CREATION, NV_DIGEST = 0x8018, 0x8019, 0x801A, 0x801C
+
+MAGIC = 0xFF544347
+GREATEST_COUNT = 16
+GREATEST_PCR_SIZE = 4
+GREATEST_INPUT = 4096
+
+DIGEST, AUTH, RSA_PUBLIC, RSA_PRIVATE, SENSITIVE_DATA = 64, 64, 512, 256, 256
+ECC_PARAMETER, SYMMETRIC_KEY, NAME, DATA, NV_CONTENTS = 66, 32, 66, 66, 2048
+
+# The parts of an arm, in wire order. A buffer is written with its limit; a list has its own rules.
+CODE = ('code', 2)
+YES_NO = ('number', 1)
+LIST = ('list', 0)
+NOTHING = ()
+
+
+def number(size):
+    return ('number', size)
+
+
+def plain(size):
+    return ('bytes', size)
+
+
+def buffer(limit):
+    return ('buffer', limit)
+
+
+def each(arm, *selectors):
+    return dict.fromkeys(selectors, arm)
+
+
+CLOCK_INFO = (number(8), number(4), number(4), YES_NO)
+
+ARMS = {
+    'digest': {
+        **each((plain(20),), SHA1),
+        **each((plain(24),), SHAKE256_192),
+        **each((plain(32),), SHA256, SM3_256, SHA3_256, SHAKE256_256),
+        **each((plain(48),), SHA384, SHA3_384),
+        **each((plain(64),), SHA512, SHA3_512, SHAKE256_512),
+        **each(NOTHING, NULL),
+    },
+    'cipher': {
+        **each((number(2), CODE), AES, SM4, CAMELLIA),
+        **each((CODE, CODE), XOR),
+        **each(NOTHING, NULL),
+    },
+    'kdf': {
+        **each((CODE,), MGF1, KDF1_SP800_56A, KDF2, KDF1_SP800_108),
+        **each(NOTHING, NULL),
+    },
+    'keyed hash': {
+        **each((CODE,), HMAC),
+        **each((CODE, CODE), XOR),
+        **each(NOTHING, NULL),
+    },
+    'signing': {
+        **each((CODE,), HMAC, RSASSA, RSAPSS, ECDSA, ECDAA, SM2, ECSCHNORR),
+        **each(NOTHING, NULL),
+    },
+    'asymmetric': {
+        **each((CODE,), RSASSA, RSAPSS, ECDSA, ECDAA, SM2, ECSCHNORR, OAEP, ECDH, ECMQV),
+        **each(NOTHING, RSAES, NULL),
+    },
+    # As they begin, and whole where every scheme and cipher in them is Null.
+    'parameters': {
+        **each((CODE,), KEYEDHASH, SYMCIPHER),
+        **each((CODE, CODE, number(2), number(4)), RSA),
+        **each((CODE, CODE, CODE, CODE), ECC),
+        **each(NOTHING, NULL),
+    },
+    'unique': {
+        **each((buffer(DIGEST),), KEYEDHASH),
+        **each((buffer(SYMMETRIC_KEY),), SYMCIPHER),
+        **each((buffer(RSA_PUBLIC),), RSA),
+        **each((buffer(ECC_PARAMETER), buffer(ECC_PARAMETER)), ECC),
+        **each(NOTHING, NULL),
+    },
+    'sensitive': {
+        **each((buffer(RSA_PRIVATE),), RSA),
+        **each((buffer(ECC_PARAMETER),), ECC),
+        **each((buffer(SENSITIVE_DATA),), KEYEDHASH),
+        **each((buffer(SYMMETRIC_KEY),), SYMCIPHER),
+    },
+    # Hmac as it begins, and whole where its digest is Null.
+    'signature': {
+        **each((CODE, buffer(RSA_PUBLIC)), RSASSA, RSAPSS),
+        **each((CODE, buffer(ECC_PARAMETER), buffer(ECC_PARAMETER)), ECDSA, ECDAA, SM2, ECSCHNORR),
+        **each((CODE,), HMAC),
+        **each(NOTHING, NULL),
+    },
+    'attestation': {
+        CERTIFY: (buffer(NAME), buffer(NAME)),
+        CREATION: (buffer(NAME), buffer(DIGEST)),
+        QUOTE: (LIST, buffer(DIGEST)),
+        COMMAND_AUDIT: (number(8), CODE, buffer(DIGEST), buffer(DIGEST)),
+        SESSION_AUDIT: (YES_NO, buffer(DIGEST)),
+        TIME: (number(8), *CLOCK_INFO, number(8)),
+        NV: (buffer(NAME), number(2), buffer(NV_CONTENTS)),
+        NV_DIGEST: (buffer(NAME), buffer(DIGEST)),
+    },
+}
+
+# The union that the first code of a record chooses from. Kind 14 has none.
+UNION_OF_KIND = {
+    1: 'digest', 2: 'cipher', 3: 'kdf', 4: 'keyed hash', 5: 'signing', 6: 'asymmetric', 7: 'asymmetric',
+    8: 'asymmetric', 9: 'parameters', 10: 'signature', 11: 'parameters', 12: 'sensitive', 13: 'attestation',
+}
+KINDS = range(1, 15)
+
+# The unions inside of an arm of the parameters, in wire order; with Ecc a curve stands ahead of the last.
+UNIONS_OF_PARAMETERS = {
+    KEYEDHASH: ['keyed hash'], SYMCIPHER: ['cipher'], RSA: ['cipher', 'asymmetric'],
+    ECC: ['cipher', 'asymmetric', 'kdf'], NULL: [],
+}
+
+# The limits of the buffers that stand ahead of a kind's arms.
+LIMITS_AHEAD = {11: [DIGEST], 12: [AUTH, DIGEST], 13: [NAME, DATA]}
+
+
+def armless(union):
+    """The listed algorithms that have no arm in the union."""
+    return [code for code in ALGORITHMS if code not in ARMS[union]]
+
+
+def limits(kind, selector):
+    """The limits of the buffers of a record, in wire order."""
+    if kind not in (10, 11, 12, 13):
+        return []
+    union = 'unique' if kind == 11 else UNION_OF_KIND[kind]
+    return LIMITS_AHEAD.get(kind, []) + [limit for what, limit in ARMS[union][selector] if what == 'buffer']
