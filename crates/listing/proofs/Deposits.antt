@@ -44,7 +44,7 @@ pub kind-unread : (k : ℕ) {f : Refusal} → f ≡ oversize → isKind k ≡ tr
 kind-unread k e some = rw (some, e)
 
 -- a record that is not too long is answered as its reader does
-judged-read : (k : ℕ) (bs : List ℕ) → length bs ≤ 4096 → judged k bs ≡ readKind k bs 0
+pub judged-read : (k : ℕ) (bs : List ℕ) → length bs ≤ 4096 → judged k bs ≡ readKind k bs 0
 unfolding judged readKind
 judged-read k bs few = rw (le-leb (length bs) 4096 few)
 
@@ -62,7 +62,7 @@ judged-unread k bs many = rw (lt-leb (length bs) 4096 many) (by (isKind k))
 
 -- ---- what is listed
 
-refused-listed : (k : ℕ) (bs : List ℕ) {f : Refusal} → judged k bs ≡ refused f → refusedText k (paper (f .fault) .number) (f .place) (f .value) ≡ recordText k bs
+pub refused-listed : (k : ℕ) (bs : List ℕ) {f : Refusal} → judged k bs ≡ refused f → refusedText k (paper (f .fault) .number) (f .place) (f .value) ≡ recordText k bs
 unfolding recordText
 refused-listed k bs e = ap (λ a. answerText k bs a) (sym e)
 
@@ -83,7 +83,7 @@ kind-read : (k : ℕ) (bs : List ℕ) {ps : List Part} {e : ℕ} → readKind k 
 unfolding readKind
 kind-read k bs p = when-found (isKind k) _ _ p .1
 
-read-listed : (k : ℕ) (bs : List ℕ) {ps : List Part} {e : ℕ} → judged k bs ≡ parsed ps e
+pub read-listed : (k : ℕ) (bs : List ℕ) {ps : List Part} {e : ℕ} → judged k bs ≡ parsed ps e
     → readText k e (length bs - e) ++ linesText (lines (layoutOf k) ps bs 0) ≡ recordText k bs
 unfolding recordText
 read-listed k bs e = ap (λ a. answerText k bs a) (sym e)

@@ -2,3 +2,4 @@ pub mod Deposits
 pub mod Parts
 pub mod Itemized
 pub mod Planned
+pub mod Promises
