@@ -5,3 +5,4 @@ pub mod Lent
 pub mod Begun
 pub mod Laid
 pub mod Rewritten
+pub mod Readers

@@ -1,6 +1,6 @@
 -- The promises of writing, for the code: what follows from `Writes`, which every writer ensures. Assumes nothing.
 use Prim.Native.Nat.{ℕ, _-_, _≤_, _<_}
-use mathlib.Core.Path.{_≡_, refl, sym, ap, _∙_}
+use mathlib.Core.Path.{_≡_, sym, ap, _∙_}
 use mathlib.Core.Logic.{_⊎_}
 use mathlib.Core.List.{List, _++_}
 use lib.ListN.{length, take, drop}
@@ -9,13 +9,13 @@ use Rattle.wire.specs.declared.measure.Measure.{Measure}
 use Rattle.wire.specs.Answers.{measureAnswer}
 use Rattle.wire.specs.Bytes.{Bytes}
 use Rattle.wire.specs.Faults.{noRoom}
-use Rattle.wire.specs.Layout.{Layout, noArm}
+use Rattle.wire.specs.Layout.{Layout}
 use Rattle.wire.specs.Reading.{Part, found, parsed, read}
 use Rattle.wire.specs.Grammar.{Spells, shown}
 use Rattle.wire.specs.Writing.{lay, written}
 use Rattle.wire.specs.Unwritten.{Unwritten}
 use Rattle.wire.proofs.Answers.{measure-answer-once}
-use Rattle.kinds.specs.Kinds.{ha, symDef, kdfScheme, keyedhashScheme, sigScheme, asymScheme, publicParms, signature, publicArea, sensitive, attest, pcrSelections, kinds, layoutOf}
+use Rattle.kinds.specs.Kinds.{layoutOf}
 use Rattle.records.specs.Sizes.{sizesOf}
 use Rattle.records.specs.Within.{Within}
 use Rattle.records.proofs.Rewritten as rewritten
@@ -94,16 +94,6 @@ module _ (k : ℕ) {ps : List Part} {src old last : List ℕ} {r : Measure} (w :
 
 -- ---- which layout a writer's kind has
 
--- what a writer of the layout ensures is what a writer of the kind ensures
+-- what a writer of the layout ensures is what a writer of the kind ensures; `kind-layouts` of `records` says which layout a number has
 pub by-number : {l : Layout} {ps : List Part} {src old last : List ℕ} {r : Measure} (k : ℕ) → layoutOf k ≡ l → Writes l ps src old r last → Writes (layoutOf k) ps src old r last
 by-number k e w = rw e w
-
--- the layout of each number, as the writers' contracts name it: `kind-layouts .11` is that of kind 11, and 0 is no kind
-pub kind-layouts :
-    (layoutOf 0 ≡ noArm 0)
-    × (layoutOf 1 ≡ ha) × (layoutOf 2 ≡ symDef) × (layoutOf 3 ≡ kdfScheme) × (layoutOf 4 ≡ keyedhashScheme) × (layoutOf 5 ≡ sigScheme)
-    × (layoutOf 6 ≡ asymScheme) × (layoutOf 7 ≡ asymScheme) × (layoutOf 8 ≡ asymScheme)
-    × (layoutOf 9 ≡ publicParms) × (layoutOf 10 ≡ signature) × (layoutOf 11 ≡ publicArea) × (layoutOf 12 ≡ sensitive)
-    × (layoutOf 13 ≡ attest) × (layoutOf 14 ≡ pcrSelections)
-unfolding layoutOf kinds
-kind-layouts = (refl, refl, refl, refl, refl, refl, refl, refl, refl, refl, refl, refl, refl, refl, refl)
