@@ -1,0 +1,99 @@
+// Lists every deposit on standard input: two bytes that say how long it is, then the deposit, and then the next. Behind the listing of a
+// record that was read comes the line `again`, with the bytes that it is written as.
+use by_kind::kind::plan_of;
+use kinds::uint::Uint16Read;
+use kinds::uint::uint16;
+use listing::deposit::list_deposit;
+use text::put::put_hex;
+use wire::measure::Measure;
+
+fn write_listing(deposit: &[u8], out: &mut [u8]) {
+    match list_deposit(deposit, out) {
+        Measure::Size(n) => {
+            io::write_all(1, &out[..n]);
+        }
+        Measure::No(_) => {}
+    }
+}
+
+fn write_again_line(bytes: &[u8], out: &mut [u8]) {
+    let word = [b'a', b'g', b'a', b'i', b'n', b' '];
+    let end = [b'\n'];
+    if bytes.len() > 4096 {
+        return;
+    }
+    if out.len() < 8193 {
+        return;
+    }
+    io::write_all(1, &word);
+    let n = put_hex(bytes, out, 0);
+    if n <= out.len() {
+        io::write_all(1, &out[..n]);
+    }
+    io::write_all(1, &end);
+}
+
+fn write_again(kind: u8, bytes: &[u8], again: &mut [u8], out: &mut [u8]) {
+    let answer = plan_of(kind, bytes);
+    let plan = answer.plan;
+    let end = answer.end;
+    match end {
+        Measure::Size(_) => match plan.write(bytes, again) {
+            Measure::Size(n) => {
+                if n <= again.len() {
+                    write_again_line(&again[..n], out);
+                }
+            }
+            Measure::No(_) => {}
+        },
+        Measure::No(_) => {}
+    }
+}
+
+fn answer(deposit: &[u8], again: &mut [u8], out: &mut [u8]) {
+    write_listing(deposit, out);
+    if deposit.len() > 0 {
+        if deposit.len() <= 4097 {
+            let kind = deposit[0];
+            write_again(kind, &deposit[1..], again, out);
+        }
+    }
+}
+
+// The length of the next deposit; one that no deposit has stands for the input's end.
+fn next_length() -> usize {
+    let mut head = [0u8; 2];
+    let taken = io::read_full(0, &mut head);
+    match uint16(&head[..taken], 0) {
+        Uint16Read::Found(n, _) => n as usize,
+        Uint16Read::No(_) => 65536,
+    }
+}
+
+// Answers a deposit of that length, if space has room for one and so many bytes come.
+fn answer_one(length: usize, space: &mut [u8]) -> bool {
+    let mut again = [0u8; 4096];
+    let mut out = [0u8; 98304];
+    if length > space.len() {
+        return false;
+    }
+    let taken = io::read_full(0, &mut space[..length]);
+    if taken < length {
+        return false;
+    }
+    answer(&space[..length], &mut again, &mut out);
+    true
+}
+
+fn answer_next() -> bool {
+    let mut space = [0u8; 4098];
+    answer_one(next_length(), &mut space)
+}
+
+// A proved loop has to end, and nothing says that an input does: this one counts down from a number that no run uses up.
+fn main() {
+    let mut turns = u64::MAX;
+    while turns > 0 && answer_next() {
+        turns -= 1;
+    }
+}
