@@ -1,0 +1,164 @@
+// Written from docs/FORMAT.md alone; nothing here comes from our reader or from libtss2-mu.
+#include "layouts.h"
+
+#define STOP {END, 0, NULL, NULL}
+#define NUMBER_OF(width) {NUMBER, width, NULL, NULL}
+#define CODE_OF(role) {CODE, role, NULL, NULL}
+#define BUFFER_OF(buffer) {BUFFER, buffer, NULL, NULL}
+#define PLAIN_OF(size) {PLAIN, size, NULL, NULL}
+#define ITEMS_OF(item) {ITEMS, 0, item, NULL}
+#define PART_OF(part) {PART, 0, part, NULL}
+#define UNION_OF(arms) {UNION, 0, NULL, arms}
+#define ROW(...) (const struct field[]) {__VA_ARGS__, STOP}
+#define LAST {0, NULL}
+
+enum algorithm {
+    RSA = 0x01, SHA1 = 0x04, HMAC = 0x05, AES = 0x06, MGF1 = 0x07, KEYED_HASH = 0x08, XOR = 0x0A, SHA256 = 0x0B,
+    SHA384 = 0x0C, SHA512 = 0x0D, NULL_CODE = 0x10, SM3_256 = 0x12, SM4 = 0x13, RSASSA = 0x14, RSAES = 0x15,
+    RSAPSS = 0x16, OAEP = 0x17, ECDSA = 0x18, ECDH = 0x19, ECDAA = 0x1A, SM2 = 0x1B, ECSCHNORR = 0x1C, ECMQV = 0x1D,
+    KDF1_56A = 0x20, KDF2 = 0x21, KDF1_108 = 0x22, ECC = 0x23, SYM_CIPHER = 0x25, CAMELLIA = 0x26, SHA3_256 = 0x27,
+    SHA3_384 = 0x28, SHA3_512 = 0x29, SHAKE256_192 = 0x2C, SHAKE256_256 = 0x2D, SHAKE256_512 = 0x2E
+};
+
+enum attestation {
+    NV = 0x8014, COMMAND_AUDIT = 0x8015, SESSION_AUDIT = 0x8016, CERTIFY = 0x8017, QUOTE = 0x8018, TIME = 0x8019,
+    CREATION = 0x801A, NV_DIGEST = 0x801C
+};
+
+struct range {
+    unsigned from, to;
+};
+
+static const struct range algorithms[] = {
+    {0x01, 0x01}, {0x03, 0x08}, {0x0A, 0x0D}, {0x10, 0x10}, {0x12, 0x1D}, {0x20, 0x23}, {0x25, 0x2E}, {0x3F, 0x44}, {1, 0}};
+static const struct range curves[] = {{0x00, 0x05}, {0x10, 0x11}, {0x20, 0x20}, {0x30, 0x32}, {0x40, 0x41}, {1, 0}};
+static const struct range attestations[] = {{0x8014, 0x801A}, {0x801C, 0x801C}, {1, 0}};
+
+const struct field nothing[] = {STOP};
+const struct field a_hash[] = {CODE_OF(HASH), STOP};
+const struct field a_hash_and_a_count[] = {CODE_OF(HASH), NUMBER_OF(2), STOP};
+const struct field key_bits_and_mode[] = {NUMBER_OF(2), CODE_OF(MODE), STOP};
+
+const struct arm digest_arms[] = {
+    {SHA1, ROW(PLAIN_OF(20))}, {SHAKE256_192, ROW(PLAIN_OF(24))},
+    {SHA256, ROW(PLAIN_OF(32))}, {SM3_256, ROW(PLAIN_OF(32))},
+    {SHA3_256, ROW(PLAIN_OF(32))}, {SHAKE256_256, ROW(PLAIN_OF(32))},
+    {SHA384, ROW(PLAIN_OF(48))}, {SHA3_384, ROW(PLAIN_OF(48))},
+    {SHA512, ROW(PLAIN_OF(64))}, {SHA3_512, ROW(PLAIN_OF(64))}, {SHAKE256_512, ROW(PLAIN_OF(64))},
+    {NULL_CODE, nothing}, LAST};
+
+const struct arm cipher_arms[] = {
+    {AES, key_bits_and_mode}, {SM4, key_bits_and_mode}, {CAMELLIA, key_bits_and_mode},
+    {XOR, ROW(CODE_OF(HASH), CODE_OF(MODE))}, {NULL_CODE, nothing}, LAST};
+
+const struct arm kdf_arms[] = {
+    {MGF1, a_hash}, {KDF1_56A, a_hash}, {KDF2, a_hash}, {KDF1_108, a_hash}, {NULL_CODE, nothing}, LAST};
+
+const struct arm keyedhash_arms[] = {
+    {HMAC, a_hash}, {XOR, ROW(CODE_OF(HASH), CODE_OF(KDF))}, {NULL_CODE, nothing}, LAST};
+
+const struct arm signing_arms[] = {
+    {HMAC, a_hash}, {RSASSA, a_hash}, {RSAPSS, a_hash}, {ECDSA, a_hash}, {ECDAA, a_hash}, {SM2, a_hash},
+    {ECSCHNORR, a_hash}, {NULL_CODE, nothing}, LAST};
+
+const struct arm asymmetric_arms[] = {
+    {RSASSA, a_hash}, {RSAPSS, a_hash}, {ECDSA, a_hash}, {ECDAA, a_hash}, {SM2, a_hash}, {ECSCHNORR, a_hash},
+    {OAEP, a_hash}, {ECDH, a_hash}, {ECMQV, a_hash}, {RSAES, nothing}, {NULL_CODE, nothing}, LAST};
+
+static const struct field tagged_digest[] = {CODE_OF(SELECTOR), UNION_OF(digest_arms), STOP};
+static const struct field cipher[] = {CODE_OF(SELECTOR), UNION_OF(cipher_arms), STOP};
+static const struct field kdf_scheme[] = {CODE_OF(SELECTOR), UNION_OF(kdf_arms), STOP};
+static const struct field keyedhash_scheme[] = {CODE_OF(SELECTOR), UNION_OF(keyedhash_arms), STOP};
+static const struct field signing_scheme[] = {CODE_OF(SELECTOR), UNION_OF(signing_arms), STOP};
+static const struct field asymmetric_scheme[] = {CODE_OF(SELECTOR), UNION_OF(asymmetric_arms), STOP};
+
+const struct arm parameter_arms[] = {
+    {KEYED_HASH, ROW(PART_OF(keyedhash_scheme))},
+    {SYM_CIPHER, ROW(PART_OF(cipher))},
+    {RSA, ROW(PART_OF(cipher), PART_OF(asymmetric_scheme), NUMBER_OF(2), NUMBER_OF(4))},
+    {ECC, ROW(PART_OF(cipher), PART_OF(asymmetric_scheme), CODE_OF(CURVE), PART_OF(kdf_scheme))},
+    {NULL_CODE, nothing}, LAST};
+
+const struct arm unique_arms[] = {
+    {KEYED_HASH, ROW(BUFFER_OF(DIGEST_BUFFER))}, {SYM_CIPHER, ROW(BUFFER_OF(SYM_UNIQUE))},
+    {RSA, ROW(BUFFER_OF(RSA_PUBLIC))}, {ECC, ROW(BUFFER_OF(ECC_PARAMETER), BUFFER_OF(ECC_PARAMETER))},
+    {NULL_CODE, nothing}, LAST};
+
+const struct arm sensitive_arms[] = {
+    {RSA, ROW(BUFFER_OF(RSA_PRIVATE))}, {ECC, ROW(BUFFER_OF(ECC_PARAMETER))},
+    {KEYED_HASH, ROW(BUFFER_OF(SENSITIVE_DATA))}, {SYM_CIPHER, ROW(BUFFER_OF(SYM_KEY))}, LAST};
+
+static const struct field rsa_signature[] = {CODE_OF(HASH), BUFFER_OF(RSA_PUBLIC), STOP};
+static const struct field ecc_signature[] = {CODE_OF(HASH), BUFFER_OF(ECC_PARAMETER), BUFFER_OF(ECC_PARAMETER), STOP};
+
+const struct arm signature_arms[] = {
+    {RSASSA, rsa_signature}, {RSAPSS, rsa_signature},
+    {ECDSA, ecc_signature}, {ECDAA, ecc_signature}, {SM2, ecc_signature}, {ECSCHNORR, ecc_signature},
+    {HMAC, ROW(PART_OF(tagged_digest))}, {NULL_CODE, nothing}, LAST};
+
+static const struct field pcr_selection[] = {CODE_OF(BANK), BUFFER_OF(PCR_BITS), STOP};
+static const struct field pcr_selections[] = {ITEMS_OF(pcr_selection), STOP};
+static const struct field clock_info[] = {NUMBER_OF(8), NUMBER_OF(4), NUMBER_OF(4), {YES_NO, 0, NULL, NULL}, STOP};
+
+const struct arm attested_arms[] = {
+    {CERTIFY, ROW(BUFFER_OF(NAME), BUFFER_OF(NAME))},
+    {CREATION, ROW(BUFFER_OF(NAME), BUFFER_OF(DIGEST_BUFFER))},
+    {QUOTE, ROW(PART_OF(pcr_selections), BUFFER_OF(DIGEST_BUFFER))},
+    {COMMAND_AUDIT, ROW(NUMBER_OF(8), CODE_OF(AUDITED), BUFFER_OF(DIGEST_BUFFER), BUFFER_OF(DIGEST_BUFFER))},
+    {SESSION_AUDIT, ROW({YES_NO, 0, NULL, NULL}, BUFFER_OF(DIGEST_BUFFER))},
+    {TIME, ROW(NUMBER_OF(8), PART_OF(clock_info), NUMBER_OF(8))},
+    {NV, ROW(BUFFER_OF(NAME), NUMBER_OF(2), BUFFER_OF(NV_CONTENTS))},
+    {NV_DIGEST, ROW(BUFFER_OF(NAME), BUFFER_OF(DIGEST_BUFFER))}, LAST};
+
+static const struct field parameters[] = {CODE_OF(SELECTOR), UNION_OF(parameter_arms), STOP};
+static const struct field signature[] = {CODE_OF(SELECTOR), UNION_OF(signature_arms), STOP};
+static const struct field public_area[] = {
+    CODE_OF(SELECTOR), CODE_OF(NAME_ALGORITHM), NUMBER_OF(4), BUFFER_OF(DIGEST_BUFFER), UNION_OF(parameter_arms),
+    UNION_OF(unique_arms), STOP};
+static const struct field sensitive_area[] = {
+    CODE_OF(SELECTOR), BUFFER_OF(AUTH), BUFFER_OF(DIGEST_BUFFER), UNION_OF(sensitive_arms), STOP};
+static const struct field attestation[] = {
+    {MAGIC, 0, NULL, NULL}, CODE_OF(ATTESTATION), BUFFER_OF(NAME), BUFFER_OF(DATA), PART_OF(clock_info), NUMBER_OF(8),
+    UNION_OF(attested_arms), STOP};
+
+const struct field *layout_of(int kind)
+{
+    static const struct field *const kinds[KINDS + 1] = {
+        NULL, tagged_digest, cipher, kdf_scheme, keyedhash_scheme, signing_scheme, asymmetric_scheme, asymmetric_scheme,
+        asymmetric_scheme, parameters, signature, public_area, sensitive_area, attestation, pcr_selections};
+    return kinds[kind];
+}
+
+const struct field *arm_for(const struct arm *arms, unsigned selector)
+{
+    while (arms->fields != NULL && arms->selector != selector)
+        arms++;
+    return arms->fields;
+}
+
+bool chooses_an_arm(enum role role)
+{
+    return role == SELECTOR || role == ATTESTATION;
+}
+
+bool listed(enum role role, unsigned code)
+{
+    const struct range *range = role == CURVE ? curves : role == ATTESTATION ? attestations : algorithms;
+    while (range->from <= range->to && !(range->from <= code && code <= range->to))
+        range++;
+    return range->from <= range->to;
+}
+
+size_t limit_of(enum buffer buffer)
+{
+    static const size_t limits[] = {
+        [DIGEST_BUFFER] = 64, [AUTH] = 64, [RSA_PUBLIC] = 512, [RSA_PRIVATE] = 256, [SENSITIVE_DATA] = 256,
+        [ECC_PARAMETER] = 66, [SYM_KEY] = 32, [SYM_UNIQUE] = 32, [NAME] = 66, [DATA] = 66, [NV_CONTENTS] = 2048,
+        [PCR_BITS] = 4};
+    return limits[buffer];
+}
+
+size_t length_width(enum buffer buffer)
+{
+    return buffer == PCR_BITS ? 1 : 2;
+}

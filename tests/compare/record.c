@@ -1,0 +1,219 @@
+#include "record.h"
+
+#include "rules.h"
+
+struct maker {
+    struct input *input;
+    struct random *random;
+    struct style style;
+    size_t asked; // how many fields could be faulty so far
+};
+
+static void make_row(struct maker *maker, const struct field *row);
+
+// Asked once for each field that can be faulty.
+static bool is_fault_due(struct maker *maker)
+{
+    maker->asked++;
+    return maker->asked == maker->style.at
+        || (maker->style.one_in != NO_FAULT && one_in(maker->random, maker->style.one_in));
+}
+
+static void put_number(struct maker *maker, uint64_t number, size_t width)
+{
+    struct input *input = maker->input;
+    for (size_t i = width; i-- > 0 && input->size < LARGEST_INPUT;)
+        input->bytes[input->size++] = (uint8_t)(number >> (8 * i));
+}
+
+static void put_bytes(struct maker *maker, size_t size)
+{
+    struct input *input = maker->input;
+    size_t room = LARGEST_INPUT - input->size, there = size < room ? size : room;
+    random_bytes(maker->random, input->bytes + input->size, there);
+    input->size += there;
+}
+
+// A listed algorithm or curve; no list goes past 44.
+static unsigned listed_code(struct maker *maker, enum role role)
+{
+    unsigned code;
+    do
+        code = (unsigned)random_below(maker->random, 0x45);
+    while (!listed(role, code));
+    return code;
+}
+
+// Near the lists, or anywhere.
+static unsigned any_code(struct maker *maker)
+{
+    switch (random_below(maker->random, 4)) {
+    case 0:
+        return (unsigned)random_below(maker->random, 0x10000);
+    case 1:
+        return 0x8010 + (unsigned)random_below(maker->random, 0x20);
+    default:
+        return (unsigned)random_below(maker->random, 0x50);
+    }
+}
+
+// The union that a selector of this row chooses for.
+static const struct field *union_behind(const struct field *field)
+{
+    while (field->what != UNION)
+        field++;
+    return field;
+}
+
+static unsigned selector_with_arm(struct maker *maker, const struct arm *arms)
+{
+    size_t count = 0;
+    while (arms[count].fields != NULL)
+        count++;
+    return arms[random_below(maker->random, count)].selector;
+}
+
+// A selector, of those up to 44, at which the two sides part; if this union has none, one with an arm.
+static unsigned selector_with_rule(struct maker *maker, const struct field *chosen)
+{
+    unsigned start = (unsigned)random_below(maker->random, 0x45);
+    for (unsigned i = 0; i < 0x45; i++)
+        if (rule_at(chosen, (start + i) % 0x45, NO_RULE) != NO_RULE)
+            return (start + i) % 0x45;
+    return selector_with_arm(maker, chosen->arms);
+}
+
+static unsigned good_selector(struct maker *maker, const struct field *chosen)
+{
+    bool by_a_rule = maker->style.by_rules && one_in(maker->random, 4);
+    return by_a_rule ? selector_with_rule(maker, chosen) : selector_with_arm(maker, chosen->arms);
+}
+
+static unsigned make_code(struct maker *maker, const struct field *field)
+{
+    enum role role = (enum role)field->of;
+    unsigned code;
+    if (is_fault_due(maker))
+        code = chooses_an_arm(role) && one_in(maker->random, 2) ? listed_code(maker, SELECTOR) : any_code(maker);
+    else if (chooses_an_arm(role))
+        code = good_selector(maker, union_behind(field));
+    else
+        code = listed_code(maker, role);
+    put_number(maker, code, 2);
+    return code;
+}
+
+static void make_value(struct maker *maker, uint64_t good, uint64_t bad, size_t width)
+{
+    put_number(maker, is_fault_due(maker) ? bad : good, width);
+}
+
+// At or past the limit, or at a limit of another buffer.
+static size_t faulty_length(struct maker *maker, size_t limit)
+{
+    static const size_t lengths[] = {
+        0, 1, 4, 5, 20, 31, 32, 33, 34, 48, 63, 64, 65, 66, 67, 68, 69, 80, 127, 128, 129, 130, 255, 256, 257, 258,
+        511, 512, 513, 514, 2047, 2048, 2049, 2050, 65535};
+    switch (random_below(maker->random, 3)) {
+    case 0:
+        return random_between(maker->random, limit, limit + 3);
+    case 1:
+        return random_between(maker->random, limit, 2 * limit + 1);
+    default:
+        return lengths[random_below(maker->random, sizeof lengths / sizeof *lengths)];
+    }
+}
+
+static size_t length_within(struct maker *maker, size_t limit)
+{
+    switch (random_below(maker->random, 6)) {
+    case 0:
+        return limit;
+    case 1:
+        return 0;
+    case 2:
+        return random_below(maker->random, limit + 1);
+    default:
+        return random_below(maker->random, (limit < 32 ? limit : 32) + 1);
+    }
+}
+
+static void make_buffer(struct maker *maker, const struct field *field)
+{
+    enum buffer buffer = (enum buffer)field->of;
+    size_t limit = limit_of(buffer);
+    size_t length = is_fault_due(maker) ? faulty_length(maker, limit) : length_within(maker, limit);
+    put_number(maker, length, length_width(buffer));
+    put_bytes(maker, length);
+}
+
+static void make_items(struct maker *maker, const struct field *field)
+{
+    size_t count = random_below(maker->random, one_in(maker->random, 4) ? GREATEST_COUNT + 1 : 4);
+    if (is_fault_due(maker))
+        count = one_in(maker->random, 2) ? random_between(maker->random, 15, 18) : random_below(maker->random, 1u << 31);
+    put_number(maker, count, 4);
+    for (size_t i = 0; i < count && i < GREATEST_COUNT + 2; i++)
+        make_row(maker, field->part);
+}
+
+static void make_union(struct maker *maker, const struct field *field, unsigned selector)
+{
+    const struct field *arm = arm_for(field->arms, selector);
+    int rule = maker->style.by_rules ? rule_at(field, selector, NO_RULE) : NO_RULE;
+    if (rule != NO_RULE && !rules[rule].refuses)
+        arm = rules[rule].arm;
+    if (arm != NULL)
+        make_row(maker, arm);
+    else
+        put_bytes(maker, random_below(maker->random, 8));
+}
+
+static void make_field(struct maker *maker, const struct field *field, unsigned selector)
+{
+    switch (field->what) {
+    case YES_NO:
+        make_value(maker, random_below(maker->random, 2), random_below(maker->random, 256), 1);
+        break;
+    case MAGIC:
+        make_value(maker, MAGIC_NUMBER, random_number(maker->random), 4);
+        break;
+    case BUFFER:
+        make_buffer(maker, field);
+        break;
+    case ITEMS:
+        make_items(maker, field);
+        break;
+    case PART:
+        make_row(maker, field->part);
+        break;
+    case UNION:
+        make_union(maker, field, selector);
+        break;
+    default: // numbers and plain digests
+        put_bytes(maker, (size_t)field->of);
+        break;
+    }
+}
+
+static void make_row(struct maker *maker, const struct field *row)
+{
+    unsigned selector = 0;
+    for (; row->what != END; row++) {
+        if (row->what != CODE) {
+            make_field(maker, row, selector);
+            continue;
+        }
+        unsigned code = make_code(maker, row);
+        if (chooses_an_arm((enum role)row->of))
+            selector = code;
+    }
+}
+
+size_t make_record(struct input *input, struct random *random, struct style style)
+{
+    struct maker maker = {input, random, style, 0};
+    input->size = 0;
+    make_row(&maker, layout_of(input->kind));
+    return maker.asked;
+}

@@ -1,0 +1,163 @@
+// Each test names one field, or one union, and the values there for which the two part; no test looks at an answer.
+#include "rules.h"
+
+static bool is_unlisted(const struct field *field, enum role role, uint64_t value)
+{
+    return field->what == CODE && field->of == (int)role && !listed(role, (unsigned)value);
+}
+
+static bool is_length(const struct field *field, enum buffer buffer, uint64_t value, uint64_t from, uint64_t to)
+{
+    return field->what == BUFFER && field->of == (int)buffer && from <= value && value <= to;
+}
+
+static bool is_selector(const struct field *field, const struct arm *arms, uint64_t value, unsigned selector)
+{
+    return field->what == UNION && field->arms == arms && value == selector;
+}
+
+static bool hash(const struct field *field, uint64_t value)
+{
+    return is_unlisted(field, HASH, value);
+}
+
+static bool kdf(const struct field *field, uint64_t value)
+{
+    return is_unlisted(field, KDF, value);
+}
+
+static bool mode(const struct field *field, uint64_t value)
+{
+    return is_unlisted(field, MODE, value);
+}
+
+static bool curve(const struct field *field, uint64_t value)
+{
+    return is_unlisted(field, CURVE, value);
+}
+
+static bool name_algorithm(const struct field *field, uint64_t value)
+{
+    return is_unlisted(field, NAME_ALGORITHM, value);
+}
+
+static bool audited(const struct field *field, uint64_t value)
+{
+    return is_unlisted(field, AUDITED, value);
+}
+
+static bool bank(const struct field *field, uint64_t value)
+{
+    return is_unlisted(field, BANK, value);
+}
+
+static bool magic(const struct field *field, uint64_t value)
+{
+    return field->what == MAGIC && value != MAGIC_NUMBER;
+}
+
+static bool yes_no(const struct field *field, uint64_t value)
+{
+    return field->what == YES_NO && value > 1;
+}
+
+static bool symcipher_cipher(const struct field *field, uint64_t value)
+{
+    return is_selector(field, cipher_arms, value, 0x25);
+}
+
+static bool null_sensitive(const struct field *field, uint64_t value)
+{
+    return is_selector(field, sensitive_arms, value, 0x10);
+}
+
+// Two places, one difference: the type is let through, and its arm is empty.
+static bool null_attestation(const struct field *field, uint64_t value)
+{
+    bool is_type = field->what == CODE && field->of == ATTESTATION && value == 0x10;
+    return is_type || is_selector(field, attested_arms, value, 0x10);
+}
+
+static bool long_ecc(const struct field *field, uint64_t value)
+{
+    return is_length(field, ECC_PARAMETER, value, 67, 128);
+}
+
+static bool long_unique(const struct field *field, uint64_t value)
+{
+    return is_length(field, SYM_UNIQUE, value, 33, 64);
+}
+
+static bool long_name(const struct field *field, uint64_t value)
+{
+    return is_length(field, NAME, value, 67, 68);
+}
+
+static bool long_data(const struct field *field, uint64_t value)
+{
+    return is_length(field, DATA, value, 65, 66);
+}
+
+static bool new_digest(const struct field *field, uint64_t value)
+{
+    bool is_sha3 = 0x27 <= value && value <= 0x29, is_shake = 0x2C <= value && value <= 0x2E;
+    return field->what == UNION && field->arms == digest_arms && (is_sha3 || is_shake);
+}
+
+static bool kdf2(const struct field *field, uint64_t value)
+{
+    return is_selector(field, kdf_arms, value, 0x21);
+}
+
+static bool nv_digest(const struct field *field, uint64_t value)
+{
+    return is_selector(field, attested_arms, value, 0x801C);
+}
+
+static bool xor_cipher(const struct field *field, uint64_t value)
+{
+    return is_selector(field, cipher_arms, value, 0x0A);
+}
+
+static bool ecdaa_scheme(const struct field *field, uint64_t value)
+{
+    return is_selector(field, signing_arms, value, 0x1A) || is_selector(field, asymmetric_arms, value, 0x1A);
+}
+
+const struct rule rules[] = {
+    {"hash-not-judged", "it takes any hash code in a scheme or a signature", hash, false, NULL},
+    {"kdf-not-judged", "it takes any KDF code in the keyed hash scheme's Xor", kdf, false, NULL},
+    {"mode-not-judged", "it takes any mode of a cipher", mode, false, NULL},
+    {"curve-not-judged", "it takes any curve", curve, false, NULL},
+    {"name-algorithm-not-judged", "it takes any name algorithm", name_algorithm, false, NULL},
+    {"audited-not-judged", "it takes any algorithm in a command audit", audited, false, NULL},
+    {"bank-not-judged", "it takes any PCR bank", bank, false, NULL},
+    {"magic-not-judged", "it takes any magic", magic, false, NULL},
+    {"yes-no-not-judged", "it takes any yes/no byte", yes_no, false, NULL},
+    {"symcipher-cipher", "cipher selector 0025 has key bits and a mode there, and no arm in the format", symcipher_cipher,
+     false, key_bits_and_mode},
+    {"null-sensitive", "Null is an empty arm of its sensitive union", null_sensitive, false, nothing},
+    {"null-attestation", "attestation type 0010 has an empty arm there", null_attestation, false, nothing},
+    {"ecc-to-128", "it takes ECC parameters to 128 bytes, the format to 66", long_ecc, false, NULL},
+    {"unique-to-64", "the unique part of SymCipher is a digest there, to 64 bytes; in the format a key, to 32",
+     long_unique, false, NULL},
+    {"name-to-68", "it takes names to 68 bytes, the format to 66", long_name, false, NULL},
+    {"data-to-64", "it takes attestation data to 64 bytes, the format to 66", long_data, true, NULL},
+    {"no-sha3-shake", "it has no plain digest of SHA3 or SHAKE256", new_digest, true, NULL},
+    {"no-kdf2", "its KDF scheme has no KDF2", kdf2, true, NULL},
+    {"no-nv-digest", "it has no attestation type 801C", nv_digest, true, NULL},
+    {"xor-without-mode", "its cipher Xor has a hash alone, as in Part 2; the format's has a mode", xor_cipher, false,
+     a_hash},
+    {"ecdaa-with-count", "its scheme Ecdaa has a count behind the hash, as in Part 2; the format's has none",
+     ecdaa_scheme, false, a_hash_and_a_count},
+};
+
+const int rule_count = sizeof rules / sizeof *rules;
+
+int rule_at(const struct field *field, uint64_t value, int left_out)
+{
+    for (int i = 0; i < rule_count; i++)
+        if (i != left_out && rules[i].parts_at(field, value))
+            return i;
+    return NO_RULE;
+}

@@ -1,0 +1,24 @@
+// The known differences between the format and libtss2-mu, a rule each.
+#ifndef RULES_H
+#define RULES_H
+
+#include "layouts.h"
+
+struct rule {
+    const char *name;
+    const char *reason;
+    // Whether libtss2-mu goes another way at this field, given its code, number, length or, at a union, the selector.
+    bool (*parts_at)(const struct field *field, uint64_t value);
+    bool refuses; // it refuses where the format reads; otherwise it reads on where the format refuses or reads otherwise
+    const struct field *arm; // at a union: the fields that it reads there
+};
+
+enum { NO_RULE = -1 };
+
+extern const struct rule rules[];
+extern const int rule_count;
+
+// The rule that speaks at this field, other than the one left out; NO_RULE if none does.
+int rule_at(const struct field *field, uint64_t value, int left_out);
+
+#endif
