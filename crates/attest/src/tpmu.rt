@@ -18,6 +18,7 @@ use crate::tpms::TpmsTimeAttestInfo;
 use kinds::codes::TpmSt;
 use kinds::registry;
 use wire::fault::Refusal;
+use wire::widen::wide;
 ghost use mathlib.Core.Path.{_≡_};
 ghost use Rattle.wire.specs.Reading.{read};
 ghost use Rattle.wire.specs.Unions.{isArm};
@@ -41,12 +42,6 @@ pub enum TpmuAttest {
 pub enum AttestArmRead {
     Found(TpmuAttest, usize),
     No(Refusal),
-}
-
-fn wide(n: u16) -> u64
-    ensures { λ r. ⌜ r ≡ n ⌝ }
-{
-    n as u64
 }
 
 impl TpmuAttest {

@@ -33,6 +33,7 @@ use schemes::tpmt::TpmtSigScheme;
 use schemes::tpmt::TpmtSymDef;
 use wire::fault::Refusal;
 use wire::measure::Measure;
+use wire::widen::wide_byte;
 ghost use mathlib.Core.Path.{_≡_};
 ghost use Rattle.wire.specs.Reading.{read};
 ghost use Rattle.kinds.specs.Kinds.{ha, symDef, kdfScheme, keyedhashScheme, sigScheme, asymScheme, publicParms, signature, publicArea, sensitive, attest, pcrSelections};
@@ -221,12 +222,6 @@ fn pcr_selections(s: &[u8]) -> PlanRead
     }
 }
 
-fn wide(n: u8) -> u64
-    ensures { λ r. ⌜ r ≡ n ⌝ }
-{
-    n as u64
-}
-
 // The plan of the record of that kind that the bytes start with, or why there is none. A number that is no kind is refused first.
 pub fn plan_of(kind: u8, s: &[u8]) -> PlanRead
     ensures { λ r. ⌜ Planned kind (now (s .entry)) r ⌝ }
@@ -246,6 +241,6 @@ pub fn plan_of(kind: u8, s: &[u8]) -> PlanRead
         12 => sensitive_area(s),
         13 => attestation(s),
         14 => pcr_selections(s),
-        _ => no(Refusal::bad_kind(wide(kind))),
+        _ => no(Refusal::bad_kind(wide_byte(kind))),
     }
 }

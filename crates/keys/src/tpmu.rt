@@ -22,6 +22,7 @@ use wire::fault::Refusal;
 use wire::read::SpanRead;
 use wire::read::buffer;
 use wire::span::Span;
+use wire::widen::wide;
 use wire::width::Width;
 ghost use mathlib.Core.Path.{_≡_};
 ghost use Rattle.wire.specs.Reading.{read};
@@ -84,12 +85,6 @@ pub enum SensitiveCompositeRead {
 pub enum SignatureArmRead {
     Found(TpmuSignature, usize),
     No(Refusal),
-}
-
-fn wide(n: u16) -> u64
-    ensures { λ r. ⌜ r ≡ n ⌝ }
-{
-    n as u64
 }
 
 impl TpmuPublicId {

@@ -4,6 +4,7 @@ use crate::uint::Uint16Read;
 use crate::uint::uint16;
 use wire::choice::Choice;
 use wire::fault::Refusal;
+use wire::widen::wide;
 ghost use mathlib.Core.Path.{_≡_};
 ghost use Rattle.wire.specs.Layout.{one};
 ghost use Rattle.wire.specs.Reading.{read};
@@ -37,12 +38,6 @@ pub enum DigestLen {
     Bytes(u16),
     Empty,
     Nothing,
-}
-
-fn wide(n: u16) -> u64
-    ensures { λ r. ⌜ r ≡ n ⌝ }
-{
-    n as u64
 }
 
 fn within(lo: u16, hi: u16, n: u16) -> bool

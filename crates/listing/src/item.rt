@@ -8,6 +8,7 @@ use schemes::tpms::TpmsPcrSelection;
 use text::line::put_bytes_line;
 use text::line::put_number_line;
 use wire::span::Span;
+use wire::widen::wide;
 ghost use mathlib.Core.Path.{_≡_};
 ghost use Prim.Native.Nat.{_+_, _*_, _≤_};
 ghost use lib.ListN.{length};
@@ -20,12 +21,6 @@ ghost use Rattle.plans.specs.Steps.{stepLines};
 ghost use Rattle.plans.specs.Walked.{Puts};
 ghost use Rattle.text.specs.Text.{linesText};
 ghost use Rattle.listing.specs.Judged.{IsSelections};
-
-fn wide(n: u16) -> u64
-    ensures { λ r. ⌜ r ≡ n ⌝ }
-{
-    n as u64
-}
 
 // The three lines of an item of xs that stands at `place`.
 fn put_item(x: TpmsPcrSelection, xs: &[u8], place: usize, out: &mut [u8], at: usize) -> usize

@@ -1,4 +1,4 @@
 // The listing of a deposit: its record's steps as lines of text, in a lent slice.
 pub mod deposit;
-pub mod item;
-pub mod step;
+mod item;
+mod step;

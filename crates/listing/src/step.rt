@@ -69,7 +69,7 @@ fn put_step_lines(step: Step, src: &[u8], place: usize, out: &mut [u8], at: usiz
 }
 
 // The lines of a plan that was judged, from the record's start on.
-pub fn put_plan_lines(plan: Plan, src: &[u8], out: &mut [u8], at: usize) -> usize
+pub(crate) fn put_plan_lines(plan: Plan, src: &[u8], out: &mut [u8], at: usize) -> usize
     requires { ⌜ Room 0 plan × Legal (spell (steps plan) (now src) 0) × (length (partOf (spell (steps plan) (now src) 0)) ≤ 0x10000) × (length (now src) ≤ 0x10000)
         × (at + (74640 + 2 * length (partOf (spell (steps plan) (now src) 0))) ≤ length (now out)) ⌝ }
     ensures { λ r. ⌜ Puts at (linesText (linesOf (steps plan) (now (src .entry)) 0)) (now (out .entry)) r (now (out .exit))

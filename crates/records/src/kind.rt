@@ -29,6 +29,7 @@ use schemes::tpmt::TpmtSigScheme;
 use schemes::tpmt::TpmtSymDef;
 use wire::fault::Refusal;
 use wire::measure::Measure;
+use wire::widen::wide_byte;
 ghost use mathlib.Core.Path.{_≡_};
 ghost use Rattle.wire.specs.Answers.{measureAnswer};
 ghost use Rattle.wire.specs.Reading.{read};
@@ -161,12 +162,6 @@ fn pcr_selections_end(s: &[u8], at: usize) -> Measure
     }
 }
 
-fn wide(n: u8) -> u64
-    ensures { λ r. ⌜ r ≡ n ⌝ }
-{
-    n as u64
-}
-
 // Where the record of that kind that starts at `at` ends, or why none does. A number that is no kind is refused first.
 pub fn record_end(kind: u8, s: &[u8], at: usize) -> Measure
     ensures { λ r. ⌜ measureAnswer r ≡ endOf (readKind kind (now (s .entry)) at) ⌝ }
@@ -186,6 +181,6 @@ pub fn record_end(kind: u8, s: &[u8], at: usize) -> Measure
         12 => sensitive_area_end(s, at),
         13 => attestation_end(s, at),
         14 => pcr_selections_end(s, at),
-        _ => Measure::No(Refusal::bad_kind(wide(kind))),
+        _ => Measure::No(Refusal::bad_kind(wide_byte(kind))),
     }
 }

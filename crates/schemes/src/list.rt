@@ -6,6 +6,7 @@ use kinds::uint::uint32;
 use wire::fault::Refusal;
 use wire::measure::Measure;
 use wire::span::Span;
+use wire::widen::wider;
 ghost use mathlib.Core.Path.{_≡_};
 ghost use Rattle.wire.specs.Answers.{measureAnswer};
 ghost use Rattle.wire.specs.Reading.{read, walk, list};
@@ -22,12 +23,6 @@ pub struct TpmlPcrSelection {
 pub enum PcrSelectionsRead {
     Found(TpmlPcrSelection, usize),
     No(Refusal),
-}
-
-fn wide(n: u32) -> u64
-    ensures { λ r. ⌜ r ≡ n ⌝ }
-{
-    n as u64
 }
 
 // Where `count` items from `at` on end. The walk stops at the first that is not one.
@@ -59,7 +54,7 @@ pub fn list_end(s: &[u8], at: usize) -> Measure
             if n <= MAX_SELECTIONS {
                 return walk_items(s, e, n);
             }
-            Measure::No(Refusal::too_many_items(at, wide(n)))
+            Measure::No(Refusal::too_many_items(at, wider(n)))
         }
         Uint32Read::No(f) => Measure::No(f),
     }

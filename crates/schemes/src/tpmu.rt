@@ -16,6 +16,7 @@ use wire::fault::Refusal;
 use wire::read::SpanRead;
 use wire::read::plain;
 use wire::span::Span;
+use wire::widen::wide;
 ghost use mathlib.Core.Path.{_≡_};
 ghost use Rattle.wire.specs.Reading.{read};
 ghost use Rattle.wire.specs.Unions.{isArm};
@@ -103,12 +104,6 @@ pub enum SigDetailsRead {
 pub enum KdfDetailsRead {
     Found(TpmuKdfScheme, usize),
     No(Refusal),
-}
-
-fn wide(n: u16) -> u64
-    ensures { λ r. ⌜ r ≡ n ⌝ }
-{
-    n as u64
 }
 
 impl TpmuAsymScheme {

@@ -5,5 +5,6 @@ pub mod fault;
 pub mod measure;
 pub mod read;
 pub mod span;
+pub mod widen;
 pub mod width;
 pub mod write;

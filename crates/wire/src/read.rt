@@ -1,6 +1,7 @@
 // The fields of a record, read from any place of any slice.
 use crate::fault::Refusal;
 use crate::span::Span;
+use crate::widen::wide_byte;
 use crate::width::Width;
 ghost use mathlib.Core.Path.{_≡_};
 ghost use Prim.Native.Nat.{_+_, _-_, _≤_};
@@ -27,13 +28,6 @@ pub(crate) fn left(len: usize, at: usize) -> usize
     if at <= len { len - at } else { 0 }
 }
 
-// A byte, as wide as the number that it becomes a digit of.
-fn wide(b: u8) -> u64
-    ensures { λ r. ⌜ r ≡ b ⌝ }
-{
-    b as u64
-}
-
 // The number that the w bytes from `at` on spell.
 fn big_endian(s: &[u8], at: usize, w: usize) -> u64
     requires { ⌜ (at + w ≤ length (now s)) × (w ≤ 8) ⌝ }
@@ -42,7 +36,7 @@ fn big_endian(s: &[u8], at: usize, w: usize) -> u64
     let mut n: u64 = 0;
     let mut i: usize = 0;
     while i < w {
-        n = n * 256 + wide(s[at + i]);
+        n = n * 256 + wide_byte(s[at + i]);
         i += 1;
     }
     n

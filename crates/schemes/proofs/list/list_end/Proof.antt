@@ -22,8 +22,8 @@ walk-items-requires c κs = search needs
 returns : tie.Need-returns
 returns c = c .walk-items .ensures ∙ sym (list-items 16 (λ s a. read pcrSelection s a) _ _ (told uint32Answer (c .before .before .before .n .given .1) (c .before .before .before .before .before .uint32 .ensures)) (omega arith))
 
-wide-requires : tie.Need-wide-requires
-wide-requires c κs = search needs
+wider-requires : tie.Need-wider-requires
+wider-requires c κs = search needs
 
 too-many-items-requires : tie.Need-too-many-items-requires
 too-many-items-requires c κs = search needs
@@ -32,7 +32,7 @@ enum-known-f : tie.Need-enum-known-f
 enum-known-f c = search needs
 
 returns-2 : tie.Need-returns-2
-returns-2 c = rw (c .too-many-items .ensures, c .before .wide .ensures) (sym (list-long 16 (λ s a. read pcrSelection s a) _ _ (told uint32Answer (c .before .before .before .before .n .given .1) (c .before .before .before .before .before .before .uint32 .ensures)) (omega arith)))
+returns-2 c = rw (c .too-many-items .ensures, c .before .wider .ensures) (sym (list-long 16 (λ s a. read pcrSelection s a) _ _ (told uint32Answer (c .before .before .before .before .n .given .1) (c .before .before .before .before .before .before .uint32 .ensures)) (omega arith)))
 
 returns-3 : tie.Need-returns-3
 returns-3 c = sym (list-short 16 (λ s a. read pcrSelection s a) _ _ (told uint32Answer (c .before .f .given .1) (c .before .before .before .uint32 .ensures)))
@@ -45,7 +45,7 @@ list-end-spec =
     enum-known-n
     walk-items-requires
     returns
-    wide-requires
+    wider-requires
     too-many-items-requires
     enum-known-f
     returns-2

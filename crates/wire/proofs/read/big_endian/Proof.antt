@@ -25,22 +25,22 @@ mul-n c =
     let l = c .before .loop in
     omega (arith, more-fits (l .n) 0 (l .i) (l .inv .1) (lit< tt), word (l .i + 1) (omega arith))
 
-add-wide : tie.Need-add-wide Inv-loop μ-loop
-add-wide c = omega arith
+add-wide-byte : tie.Need-add-wide-byte Inv-loop μ-loop
+add-wide-byte c = omega arith
 
-shared-slice-read-wide : tie.Need-shared-slice-read-wide Inv-loop μ-loop
-shared-slice-read-wide c = omega arith
+shared-slice-read-wide-byte : tie.Need-shared-slice-read-wide-byte Inv-loop μ-loop
+shared-slice-read-wide-byte c = omega arith
 
-wide-requires : tie.Need-wide-requires Inv-loop μ-loop
-wide-requires c κs = search needs
+wide-byte-requires : tie.Need-wide-byte-requires Inv-loop μ-loop
+wide-byte-requires c κs = search needs
 
-byte : (c : tie.After-wide Inv-loop μ-loop) → c .wide .result < 256
+byte : (c : tie.After-wide-byte Inv-loop μ-loop) → c .wide-byte .result < 256
 byte c = omega (arith, c .before .shared-slice-known2 .given (c .before .before .before .before .before .args .at + c .before .before .before .loop .i))
 
 add-n : tie.Need-add-n Inv-loop μ-loop
 add-n c =
     let l = c .before .before .before .loop in
-    omega (arith, more-fits (l .n) (c .wide .result) (l .i) (l .inv .1) (byte c), word (l .i + 1) (omega arith))
+    omega (arith, more-fits (l .n) (c .wide-byte .result) (l .i) (l .inv .1) (byte c), word (l .i + 1) (omega arith))
 
 add-i : tie.Need-add-i Inv-loop μ-loop
 add-i c = omega arith
@@ -53,8 +53,8 @@ loop-again c =
     let l = c .before .before .before .loop in
     let a = c .before .before .before .before .before .args in (
       omega arith,
-      more-fits (l .n) (c .wide .result) (l .i) (l .inv .1) (byte c),
-      rw (be-more (a .s .now) (a .at) (l .i) (simp length-drop (omega arith)), ← l .inv .2, c .wide .ensures),
+      more-fits (l .n) (c .wide-byte .result) (l .i) (l .inv .1) (byte c),
+      rw (be-more (a .s .now) (a .at) (l .i) (simp length-drop (omega arith)), ← l .inv .2, c .wide-byte .ensures),
     )
 
 returns : tie.Need-returns Inv-loop μ-loop
@@ -66,4 +66,4 @@ returns c =
 pub big-endian-spec : {M : Type 1} → statement M
 big-endian-spec =
     tie.close
-    (tie.spec Inv-loop μ-loop loop-holds mul-n add-wide shared-slice-read-wide wide-requires add-n add-i loop-less loop-again returns)
+    (tie.spec Inv-loop μ-loop loop-holds mul-n add-wide-byte shared-slice-read-wide-byte wide-byte-requires add-n add-i loop-less loop-again returns)
