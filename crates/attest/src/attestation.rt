@@ -75,7 +75,7 @@ impl TpmsAttest {
         TpmsAttest::attested(magic, attest_type, signer, extra, s, end)
     }
 
-    // The clock, the firmware and what is attested, behind the fields ahead of them.
+    // Reads on behind the data, from the clock to what is attested; the fields already read are handed in.
     fn attested(
         magic: u32,
         kind: TpmSt,

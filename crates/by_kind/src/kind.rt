@@ -179,7 +179,7 @@ fn public_area(s: &[u8]) -> PlanRead
 {
     match TpmtPublic::unmarshal(s, 0) {
         PublicRead::Found(x, e) => PlanRead {
-            plan: tpmt::public(Plan::empty(), x),
+            plan: tpmt::public_area(Plan::empty(), x),
             end: Measure::Size(e),
         },
         PublicRead::No(f) => no(f),
@@ -191,7 +191,7 @@ fn sensitive_area(s: &[u8]) -> PlanRead
 {
     match TpmtSensitive::unmarshal(s, 0) {
         SensitiveRead::Found(x, e) => PlanRead {
-            plan: tpmt::sensitive(Plan::empty(), x),
+            plan: tpmt::sensitive_area(Plan::empty(), x),
             end: Measure::Size(e),
         },
         SensitiveRead::No(f) => no(f),
@@ -215,7 +215,7 @@ fn pcr_selections(s: &[u8]) -> PlanRead
 {
     match TpmlPcrSelection::unmarshal(s, 0) {
         PcrSelectionsRead::Found(x, e) => PlanRead {
-            plan: list::pcr_selection(Plan::empty(), x),
+            plan: list::pcr_selections(Plan::empty(), x),
             end: Measure::Size(e),
         },
         PcrSelectionsRead::No(f) => no(f),

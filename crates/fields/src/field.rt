@@ -97,14 +97,14 @@ pub fn signature<'a>(x: TpmtSignature, s: &'a [u8], index: usize) -> &'a [u8]
 pub fn public_area<'a>(x: TpmtPublic, s: &'a [u8], index: usize) -> &'a [u8]
     ensures { λ r. ⌜ now r ≡ partOf (fieldOf (publicParts x) index (now (s .entry))) ⌝ }
 {
-    tpmt::public(Plan::empty(), x).field(s, index)
+    tpmt::public_area(Plan::empty(), x).field(s, index)
 }
 
 // Kind 12, TPMT_SENSITIVE
 pub fn sensitive_area<'a>(x: TpmtSensitive, s: &'a [u8], index: usize) -> &'a [u8]
     ensures { λ r. ⌜ now r ≡ partOf (fieldOf (sensitiveParts x) index (now (s .entry))) ⌝ }
 {
-    tpmt::sensitive(Plan::empty(), x).field(s, index)
+    tpmt::sensitive_area(Plan::empty(), x).field(s, index)
 }
 
 // Kind 13, TPMS_ATTEST
@@ -118,5 +118,5 @@ pub fn attestation<'a>(x: TpmsAttest, s: &'a [u8], index: usize) -> &'a [u8]
 pub fn pcr_selections<'a>(x: TpmlPcrSelection, s: &'a [u8], index: usize) -> &'a [u8]
     ensures { λ r. ⌜ now r ≡ partOf (fieldOf (pcrSelectionsParts x) index (now (s .entry))) ⌝ }
 {
-    list::pcr_selection(Plan::empty(), x).field(s, index)
+    list::pcr_selections(Plan::empty(), x).field(s, index)
 }

@@ -99,14 +99,14 @@ pub fn signature(x: TpmtSignature, s: &[u8], index: usize) -> Measure
 pub fn public_area(x: TpmtPublic, s: &[u8], index: usize) -> Measure
     ensures { λ r. ⌜ measureAnswer r ≡ sizeOf (fieldOf (publicParts x) index (now (s .entry))) ⌝ }
 {
-    tpmt::public(Plan::empty(), x).field_size(s, index)
+    tpmt::public_area(Plan::empty(), x).field_size(s, index)
 }
 
 // Kind 12, TPMT_SENSITIVE
 pub fn sensitive_area(x: TpmtSensitive, s: &[u8], index: usize) -> Measure
     ensures { λ r. ⌜ measureAnswer r ≡ sizeOf (fieldOf (sensitiveParts x) index (now (s .entry))) ⌝ }
 {
-    tpmt::sensitive(Plan::empty(), x).field_size(s, index)
+    tpmt::sensitive_area(Plan::empty(), x).field_size(s, index)
 }
 
 // Kind 13, TPMS_ATTEST
@@ -120,5 +120,5 @@ pub fn attestation(x: TpmsAttest, s: &[u8], index: usize) -> Measure
 pub fn pcr_selections(x: TpmlPcrSelection, s: &[u8], index: usize) -> Measure
     ensures { λ r. ⌜ measureAnswer r ≡ sizeOf (fieldOf (pcrSelectionsParts x) index (now (s .entry))) ⌝ }
 {
-    list::pcr_selection(Plan::empty(), x).field_size(s, index)
+    list::pcr_selections(Plan::empty(), x).field_size(s, index)
 }

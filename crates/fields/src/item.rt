@@ -98,14 +98,14 @@ pub fn signature<'a>(x: TpmtSignature, s: &'a [u8], index: usize) -> &'a [u8]
 pub fn public_area<'a>(x: TpmtPublic, s: &'a [u8], index: usize) -> &'a [u8]
     ensures { λ r. ⌜ now r ≡ partOf (itemOf 16 pcrSelection [] index (now (s .entry))) ⌝ }
 {
-    tpmt::public(Plan::empty(), x).item(s, index)
+    tpmt::public_area(Plan::empty(), x).item(s, index)
 }
 
 // Kind 12, TPMT_SENSITIVE
 pub fn sensitive_area<'a>(x: TpmtSensitive, s: &'a [u8], index: usize) -> &'a [u8]
     ensures { λ r. ⌜ now r ≡ partOf (itemOf 16 pcrSelection [] index (now (s .entry))) ⌝ }
 {
-    tpmt::sensitive(Plan::empty(), x).item(s, index)
+    tpmt::sensitive_area(Plan::empty(), x).item(s, index)
 }
 
 // Kind 13, TPMS_ATTEST
@@ -119,5 +119,5 @@ pub fn attestation<'a>(x: TpmsAttest, s: &'a [u8], index: usize) -> &'a [u8]
 pub fn pcr_selections<'a>(x: TpmlPcrSelection, s: &'a [u8], index: usize) -> &'a [u8]
     ensures { λ r. ⌜ now r ≡ partOf (itemOf 16 pcrSelection (pcrSelectionsParts x) index (now (s .entry))) ⌝ }
 {
-    list::pcr_selection(Plan::empty(), x).item(s, index)
+    list::pcr_selections(Plan::empty(), x).item(s, index)
 }

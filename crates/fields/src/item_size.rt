@@ -100,14 +100,14 @@ pub fn signature(x: TpmtSignature, s: &[u8], index: usize) -> Measure
 pub fn public_area(x: TpmtPublic, s: &[u8], index: usize) -> Measure
     ensures { λ r. ⌜ measureAnswer r ≡ sizeOf (itemOf 16 pcrSelection [] index (now (s .entry))) ⌝ }
 {
-    tpmt::public(Plan::empty(), x).item_size(s, index)
+    tpmt::public_area(Plan::empty(), x).item_size(s, index)
 }
 
 // Kind 12, TPMT_SENSITIVE
 pub fn sensitive_area(x: TpmtSensitive, s: &[u8], index: usize) -> Measure
     ensures { λ r. ⌜ measureAnswer r ≡ sizeOf (itemOf 16 pcrSelection [] index (now (s .entry))) ⌝ }
 {
-    tpmt::sensitive(Plan::empty(), x).item_size(s, index)
+    tpmt::sensitive_area(Plan::empty(), x).item_size(s, index)
 }
 
 // Kind 13, TPMS_ATTEST
@@ -121,5 +121,5 @@ pub fn attestation(x: TpmsAttest, s: &[u8], index: usize) -> Measure
 pub fn pcr_selections(x: TpmlPcrSelection, s: &[u8], index: usize) -> Measure
     ensures { λ r. ⌜ measureAnswer r ≡ sizeOf (itemOf 16 pcrSelection (pcrSelectionsParts x) index (now (s .entry))) ⌝ }
 {
-    list::pcr_selection(Plan::empty(), x).item_size(s, index)
+    list::pcr_selections(Plan::empty(), x).item_size(s, index)
 }

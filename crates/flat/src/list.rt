@@ -7,7 +7,7 @@ ghost use Rattle.schemes.specs.Parts.{pcrSelectionsParts};
 ghost use Rattle.plans.specs.Steps.{Room, Adds};
 
 // Kind 14, TPML_PCR_SELECTION: the list is one step.
-pub fn pcr_selection(p: Plan, x: TpmlPcrSelection) -> Plan
+pub fn pcr_selections(p: Plan, x: TpmlPcrSelection) -> Plan
     requires { ⌜ Room 1 p ⌝ }
     ensures { λ r. ⌜ Adds pcrSelections (pcrSelectionsParts x) (pcrSelectionsParts x) 1 p r ⌝ }
 {

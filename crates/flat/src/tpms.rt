@@ -1,5 +1,5 @@
 // The steps of structures.
-use crate::list::pcr_selection;
+use crate::list::pcr_selections;
 use crate::tpmt;
 use attest::tpms::TpmsCertifyInfo;
 use attest::tpms::TpmsClockInfo;
@@ -166,7 +166,7 @@ pub fn quote_info(p: Plan, x: TpmsQuoteInfo) -> Plan
 {
     let l = x.pcr_select;
     let d = x.pcr_digest;
-    pcr_selection(p, l).buffer(limits::MAX_DIGEST_SIZE, d)
+    pcr_selections(p, l).buffer(limits::MAX_DIGEST_SIZE, d)
 }
 
 // TPMS_COMMAND_AUDIT_INFO

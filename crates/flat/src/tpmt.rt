@@ -126,7 +126,7 @@ pub fn signature(p: Plan, x: TpmtSignature) -> Plan
 }
 
 // Kind 11, TPMT_PUBLIC: both arms by type
-pub fn public(p: Plan, x: TpmtPublic) -> Plan
+pub fn public_area(p: Plan, x: TpmtPublic) -> Plan
     requires { ⌜ Room 20 p ⌝ }
     ensures { λ r. ⌜ Adds publicArea (publicParts x) [] 20 p r ⌝ }
 {
@@ -144,7 +144,7 @@ pub fn public(p: Plan, x: TpmtPublic) -> Plan
 }
 
 // Kind 12, TPMT_SENSITIVE
-pub fn sensitive(p: Plan, x: TpmtSensitive) -> Plan
+pub fn sensitive_area(p: Plan, x: TpmtSensitive) -> Plan
     requires { ⌜ Room 5 p ⌝ }
     ensures { λ r. ⌜ Adds sensitive (sensitiveParts x) [] 5 p r ⌝ }
 {

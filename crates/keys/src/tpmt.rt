@@ -178,7 +178,7 @@ impl TpmtPublic {
         )
     }
 
-    // The arms behind the fields ahead of them, both by type.
+    // Reads on behind the policy: both arms, by type; the fields already read are handed in.
     fn arms(
         object: TpmAlgId,
         naming: TpmAlgId,

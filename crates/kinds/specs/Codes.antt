@@ -23,6 +23,7 @@ abbrev pub numbers : List Range → List ℕ
 numbers [] = []
 numbers (r ∷ rs) = row (r .hi + 1 - r .lo) (r .lo) ++ numbers rs
 
+-- whether the number is on the list
 abbrev pub member : List ℕ → ℕ → Bool
 member [] n = false
 member (x ∷ xs) n = eqb n x || member xs n
@@ -192,6 +193,15 @@ shake256-256 = 0x2D
 
 abbrev pub shake256-512 : ℕ
 shake256-512 = 0x2E
+
+-- all of these, rising
+abbrev pub namedAlgorithms : List ℕ
+namedAlgorithms =
+    rsa ∷ sha1 ∷ hmac ∷ aes ∷ mgf1 ∷ keyedHash ∷ xor ∷ sha256 ∷ sha384
+    ∷ sha512 ∷ null ∷ sm3-256 ∷ sm4 ∷ rsassa ∷ rsaes ∷ rsapss ∷ oaep ∷ ecdsa
+    ∷ ecdh ∷ ecdaa ∷ sm2 ∷ ecschnorr ∷ ecmqv ∷ kdf1-sp800-56a ∷ kdf2 ∷ kdf1-sp800-108 ∷ ecc
+    ∷ symCipher ∷ camellia ∷ sha3-256 ∷ sha3-384 ∷ sha3-512 ∷ shake256-192 ∷ shake256-256 ∷ shake256-512
+    ∷ []
 
 abbrev pub attestNv : ℕ
 attestNv = 0x8014

@@ -40,7 +40,7 @@ qualifying l = buffer 2 66 l
 abbrev pub nvContents : Layout → Layout
 nvContents l = buffer 2 2048 l
 
--- ---- the arms of each union
+-- ---- digests, ciphers and schemes: kinds 1 to 8
 
 -- TPMS_SCHEME_HASH: a hash code
 unfoldable pub schemeHash : Layout
@@ -236,7 +236,7 @@ sensitive =
     digest (
     sensitiveBy sensitiveType)))
 
--- ---- attestations
+-- ---- PCR selections and attestations: kinds 14 and 13
 
 -- TPMS_PCR_SELECTION: hash, size and so many bytes of bits
 unfoldable pub pcrSelection : Layout
@@ -323,6 +323,7 @@ kinds =
     ∷ publicParms ∷ signature ∷ publicArea ∷ sensitive ∷ attest ∷ pcrSelections
     ∷ []
 
+-- the numbers of the fourteen kinds
 abbrev pub isKind : ℕ → Bool
 isKind k = ltb 0 k && leb k 14
 

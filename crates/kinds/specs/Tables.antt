@@ -1,4 +1,4 @@
--- Which arm of a union each selector chooses, and what the arms hold. Assumes nothing.
+-- Which arm of a union each selector chooses. Assumes nothing.
 use Prim.Native.Nat.{ℕ, suc}
 use mathlib.Core.List.{List, [], _∷_}
 use Rattle.wire.specs.declared.choice.Choice.{Choice}

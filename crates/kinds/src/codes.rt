@@ -8,7 +8,7 @@ use wire::widen::wide;
 ghost use mathlib.Core.Path.{_≡_};
 ghost use Rattle.wire.specs.Layout.{one};
 ghost use Rattle.wire.specs.Reading.{read};
-ghost use Rattle.kinds.specs.Codes.{isAlgorithm, isCurve, isAttestation, within, alg, curve, attestation};
+ghost use Rattle.kinds.specs.Codes.{attestations, namedAlgorithms, isAlgorithm, isCurve, isAttestation, within, alg, curve, attestation};
 ghost use Rattle.kinds.specs.Tables.{digestArm, asymArm, sigArm, keyedhashArm, kdfArm, cipherArm, typeArm, sensitiveArm, signatureArm, attestArm};
 ghost use Rattle.kinds.specs.Answers.{algAnswer, curveAnswer, attestationAnswer, digestChoice};
 
@@ -116,6 +116,49 @@ impl TpmAlgId {
     pub const Shake256_256: TpmAlgId = TpmAlgId(registry::SHAKE256_256);
 
     pub const Shake256_512: TpmAlgId = TpmAlgId(registry::SHAKE256_512);
+
+    // The codes of the algorithms that have a name here, rising.
+    pub fn named() -> [u16; 35]
+        ensures { λ r. ⌜ r ≡ namedAlgorithms ⌝ }
+    {
+        [
+            TpmAlgId::Rsa.0,
+            TpmAlgId::Sha1.0,
+            TpmAlgId::Hmac.0,
+            TpmAlgId::Aes.0,
+            TpmAlgId::Mgf1.0,
+            TpmAlgId::KeyedHash.0,
+            TpmAlgId::Xor.0,
+            TpmAlgId::Sha256.0,
+            TpmAlgId::Sha384.0,
+            TpmAlgId::Sha512.0,
+            TpmAlgId::Null.0,
+            TpmAlgId::Sm3_256.0,
+            TpmAlgId::Sm4.0,
+            TpmAlgId::Rsassa.0,
+            TpmAlgId::Rsaes.0,
+            TpmAlgId::Rsapss.0,
+            TpmAlgId::Oaep.0,
+            TpmAlgId::Ecdsa.0,
+            TpmAlgId::Ecdh.0,
+            TpmAlgId::Ecdaa.0,
+            TpmAlgId::Sm2.0,
+            TpmAlgId::Ecschnorr.0,
+            TpmAlgId::Ecmqv.0,
+            TpmAlgId::Kdf1Sp800_56A.0,
+            TpmAlgId::Kdf2.0,
+            TpmAlgId::Kdf1Sp800_108.0,
+            TpmAlgId::Ecc.0,
+            TpmAlgId::SymCipher.0,
+            TpmAlgId::Camellia.0,
+            TpmAlgId::Sha3_256.0,
+            TpmAlgId::Sha3_384.0,
+            TpmAlgId::Sha3_512.0,
+            TpmAlgId::Shake256_192.0,
+            TpmAlgId::Shake256_256.0,
+            TpmAlgId::Shake256_512.0,
+        ]
+    }
 
     // Whether the code is one of the 44.
     pub fn is_listed(self) -> bool
@@ -341,6 +384,22 @@ impl TpmSt {
     pub const AttestCreation: TpmSt = TpmSt(registry::ATTEST_CREATION);
 
     pub const AttestNvDigest: TpmSt = TpmSt(registry::ATTEST_NV_DIGEST);
+
+    // Their codes, rising.
+    pub fn named() -> [u16; 8]
+        ensures { λ r. ⌜ r ≡ attestations ⌝ }
+    {
+        [
+            TpmSt::AttestNv.0,
+            TpmSt::AttestCommandAudit.0,
+            TpmSt::AttestSessionAudit.0,
+            TpmSt::AttestCertify.0,
+            TpmSt::AttestQuote.0,
+            TpmSt::AttestTime.0,
+            TpmSt::AttestCreation.0,
+            TpmSt::AttestNvDigest.0,
+        ]
+    }
 
     // Whether the code is one of the 8 attestation types.
     pub fn is_listed(self) -> bool

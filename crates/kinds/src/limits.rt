@@ -1,4 +1,5 @@
-// The limits of the buffers, in bytes, by the Rust crate's names; the numbers are the format's own.
+// The limits of the buffers, in bytes, by the Rust crate's names where its text has one (it has none for the RSA private key and the name); the numbers are the
+// format's own.
 pub const MAX_DIGEST_SIZE: usize = 64;
 
 pub const MAX_RSA_KEY_BYTES: usize = 512;

@@ -12,7 +12,7 @@ use Rattle.wire.specs.Writing.{cut, whole, partOf}
 use Rattle.wire.proofs.Steps.{when-found}
 use Rattle.wire.proofs.Cuts.{cut-length}
 use Rattle.wire.specs.Reading.{num, found}
-use Rattle.listing.specs.Judged.{IsSelections}
+use Rattle.listing.specs.Listable.{IsSelections}
 use Rattle.kinds.specs.Kinds.{pcrSelection}
 use Rattle.plans.specs.Lines.{Line, line, aCode, aNumber, theBytes, spanLine, lines}
 use Rattle.plans.specs.declared.step.Word.{Word}

@@ -23,7 +23,7 @@ use Rattle.plans.specs.Walked.{Inside, Legal, Puts}
 use Rattle.plans.proofs.Loops.{blank, from, from-cons, from-none}
 use Rattle.plans.proofs.Putting.{next-step, puts-then, puts-none, puts-length}
 use Rattle.text.specs.Text.{linesText}
-use Rattle.listing.specs.Judged.{Listable, stepSize, Owed}
+use Rattle.listing.specs.Listable.{Listable, stepSize, Asked}
 use Rattle.listing.proofs.Parts.{text-append}
 
 -- a step that spells bytes has so many
@@ -89,7 +89,7 @@ module _ {count : ℕ} {cells : List Cell} {all old src : List ℕ} {at : ℕ} {
     unfolding spell
     step-bytes = let (xs, e, q) = next-found (spellStep (getD cells i blank .step) src place) _ step-spelled in (xs, e)
 
-    pub listed-owed : length src ≤ 0x10000 → Owed (getD cells i blank .step) src place end (length out) × (stepSize (getD cells i blank .step) ≤ 0x10000)
+    pub listed-owed : length src ≤ 0x10000 → Asked (getD cells i blank .step) src place end (length out) × (stepSize (getD cells i blank .step) ≤ 0x10000)
     listed-owed short =
         let n = next-step (getD cells i blank .step) (from count cells (i + 1)) src place step-spelled in
         let size = size-is (getD cells i blank .step) src (n .inside) in

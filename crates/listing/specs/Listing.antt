@@ -28,6 +28,7 @@ abbrev pub answerText : (kind : ℕ) (bytes : List ℕ) → Ans Parsed → List 
 answerText k bs (found r) = readText k (r .stops) (length bs - r .stops) ++ linesText (lines (layoutOf k) (r .parts) bs 0)
 answerText k bs (refused f) = refusedText k (paper (f .fault) .number) (f .place) (f .value)
 
+-- the text for bytes that are said to be of that kind
 unfoldable pub recordText : (kind : ℕ) (bytes : List ℕ) → List ℕ
 recordText k bs = answerText k bs (judged k bs)
 

@@ -20,7 +20,7 @@ ghost use Rattle.plans.specs.Lines.{lines, itemLines};
 ghost use Rattle.plans.specs.Steps.{stepLines};
 ghost use Rattle.plans.specs.Walked.{Puts};
 ghost use Rattle.text.specs.Text.{linesText};
-ghost use Rattle.listing.specs.Judged.{IsSelections};
+ghost use Rattle.listing.specs.Listable.{IsSelections};
 
 // The three lines of an item of xs that stands at `place`.
 fn put_item(x: TpmsPcrSelection, xs: &[u8], place: usize, out: &mut [u8], at: usize) -> usize

@@ -16,7 +16,7 @@ ghost use Rattle.wire.specs.Writing.{partOf};
 ghost use Rattle.plans.specs.Steps.{steps, spell, Room, stepLines, linesOf};
 ghost use Rattle.plans.specs.Walked.{Legal, Puts};
 ghost use Rattle.text.specs.Text.{linesText};
-ghost use Rattle.listing.specs.Judged.{stepSize, Owed};
+ghost use Rattle.listing.specs.Listable.{stepSize, Asked};
 
 // The bytes of a span of src, that stand at `place`.
 fn put_span_line(span: Span, src: &[u8], place: usize, out: &mut [u8], at: usize) -> usize
@@ -55,7 +55,7 @@ fn step_size(step: Step) -> usize
 
 // The lines of a step that was judged and stands at `place`.
 fn put_step_lines(step: Step, src: &[u8], place: usize, out: &mut [u8], at: usize) -> usize
-    requires { ⌜ Owed step (now src) place at (length (now out)) ⌝ }
+    requires { ⌜ Asked step (now src) place at (length (now out)) ⌝ }
     ensures { λ r. ⌜ Puts at (linesText (stepLines step (now (src .entry)) place)) (now (out .entry)) r (now (out .exit))
         × (r ≤ at + (3110 + 2 * stepSize step)) ⌝ }
 {

@@ -23,10 +23,12 @@ use Rattle.plans.specs.declared.plan.Plan.{Plan}
 
 -- ---- a plan's steps
 
+-- the steps of cells
 abbrev pub stepsFrom : List Cell → List Step
 stepsFrom [] = []
 stepsFrom (c ∷ cs) = c .step ∷ stepsFrom cs
 
+-- the steps of a plan: those of as many cells as it counts
 unfoldable pub steps : Plan → List Step
 steps p = stepsFrom (take (p .count) (p .cells))
 
@@ -121,6 +123,7 @@ pub record Adds (l : Layout) (ps ls : List Part) (k : ℕ) (p r : Plan) : Type 0
 
 -- ---- numbers
 
+-- the first step where the test holds, and else the second
 abbrev pub pickStep : Bool → Step → Step → Step
 pickStep true s t = s
 pickStep false s t = t
@@ -144,6 +147,7 @@ pub record Numbered (w : Width) (rule : Rule) (n : ℕ) (p r : Plan) : Type 0 wh
 
 -- ---- unions
 
+-- no step where the test holds, and else this one
 abbrev pub unless : Bool → Step → List Step
 unless true s = []
 unless false s = s ∷ []

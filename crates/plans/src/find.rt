@@ -9,7 +9,7 @@ ghost use mathlib.Core.List.{List, _∷_};
 ghost use Prim.Native.Nat.{ℕ};
 ghost use Rattle.wire.specs.Answers.{measureAnswer};
 ghost use Rattle.wire.specs.Writing.{partOf, sizeOf, fieldOf};
-ghost use Rattle.plans.specs.Steps.{steps, Room, spansOf, listsOf};
+ghost use Rattle.plans.specs.Steps.{steps, Room, spansOf};
 ghost use Rattle.plans.specs.Walked.{placeAnswer, placeAhead};
 
 pub enum Place {

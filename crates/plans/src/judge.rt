@@ -94,7 +94,7 @@ impl Step {
 
 impl Plan {
     // How many bytes the steps spell, or the first fault.
-    pub fn judge(self, src: &[u8]) -> Measure
+    pub(crate) fn judge(self, src: &[u8]) -> Measure
         requires { ⌜ Room 0 self ⌝ }
         ensures { λ r. ⌜ measureAnswer r ≡ sizeOf (spell (steps self) (now (src .entry)) 0) ⌝ }
     {

@@ -1,4 +1,4 @@
-// A plan, by value, and what is pushed onto it. 24 steps hold the longest record: a public area with an ECC key and every arm wrong.
+// A plan, by value, and what is pushed onto it. It has 24 cells; the longest record, a public area with an ECC key and every arm wrong, takes 20.
 use crate::step::Step;
 use crate::step::Word;
 use kinds::codes::TpmAlgId;

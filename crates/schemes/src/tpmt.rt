@@ -135,7 +135,7 @@ impl TpmtHa {
 }
 
 impl TpmtSymDef {
-    // Kind 2, TPMT_SYM_DEF, read. Behind a Null cipher there is neither key bits nor mode.
+    // Kind 2, TPMT_SYM_DEF, read. Behind a Null cipher there are neither key bits nor a mode.
     pub fn unmarshal(s: &[u8], at: usize) -> SymDefRead
         ensures { λ r. ⌜ symDefAnswer r ≡ read symDef (now (s .entry)) at ⌝ }
     {

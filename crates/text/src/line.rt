@@ -3,7 +3,7 @@ use crate::put::put_decimal;
 use crate::put::put_hex;
 use crate::put::put_text;
 use plans::step::Word;
-ghost use mathlib.Core.List.{List, _++_};
+ghost use mathlib.Core.List.{_++_};
 ghost use Prim.Native.Nat.{_+_, _*_, _≤_};
 ghost use lib.ListN.{length};
 ghost use Rattle.plans.specs.Lines.{line, theBytes};

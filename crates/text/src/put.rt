@@ -1,16 +1,15 @@
 // The parts of a line.
 use wire::write::put_bytes;
 ghost use mathlib.Core.Path.{_≡_};
-ghost use mathlib.Core.List.{List, [], _∷_, _++_};
+ghost use mathlib.Core.List.{[], _∷_};
 ghost use Prim.Native.Nat.{_+_, _*_, _≤_, _<_};
 ghost use Rattle.io.specs.Digits.{glyph};
 ghost use lib.ListN.{length};
 ghost use Rattle.plans.specs.Walked.{Puts};
-ghost use Rattle.text.specs.Ascii.{ascii};
 ghost use Rattle.text.specs.Text.{decimal, pairs, hex};
 
 // All of a text at the place `at` of out, and the place behind it.
-pub fn put_text(text: &[u8], out: &mut [u8], at: usize) -> usize
+pub(crate) fn put_text(text: &[u8], out: &mut [u8], at: usize) -> usize
     requires { ⌜ at + length (now text) ≤ length (now out) ⌝ }
     ensures { λ r. ⌜ Puts at (now (text .entry)) (now (out .entry)) r (now (out .exit)) ⌝ }
 {
@@ -19,7 +18,7 @@ pub fn put_text(text: &[u8], out: &mut [u8], at: usize) -> usize
 }
 
 // A number in decimal.
-pub fn put_decimal(n: u64, out: &mut [u8], at: usize) -> usize
+pub(crate) fn put_decimal(n: u64, out: &mut [u8], at: usize) -> usize
     requires { ⌜ at + 20 ≤ length (now out) ⌝ }
     ensures { λ r. ⌜ Puts at (decimal n) (now (out .entry)) r (now (out .exit)) ⌝ }
 {

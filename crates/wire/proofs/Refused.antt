@@ -14,7 +14,7 @@ use Rattle.wire.specs.Layout.{Rule, Layout, stop, noArm, arm, number, pl
 use Rattle.wire.specs.Reading.{Part, num, tag, span, Ans, found, refused, when, next, also, Parsed, left, piece, field, walk, list, read}
 use Rattle.wire.specs.Faults.{short}
 use Rattle.wire.specs.Grammar.{Stands, Starts}
-use Rattle.wire.specs.Refusals.{Field, NoField, ends-early, not-allowed, Refuses, RefusesItems, no-arm, no-number, no-bytes, no-length, no-body, no-count, in-list, past-arm, past-number, past-bytes, past-buffer, past-list, in-item, past-item}
+use Rattle.wire.specs.Refusals.{Field, NoNumber, ends-early, not-allowed, Refuses, RefusesItems, no-arm, no-number, no-bytes, no-length, no-body, no-count, in-list, past-arm, past-number, past-bytes, past-buffer, past-list, in-item, past-item}
 use Rattle.wire.proofs.Digits.{length-digits, be-lt, digits-be}
 use Rattle.wire.proofs.Stand.{stands-bytes, stands-front, stands-back}
 use Rattle.wire.proofs.Steps.{found-refused, refused-same, piece-of, piece-found, field-of, field-not, field-found}
@@ -34,7 +34,7 @@ field-short : (w : ℕ) (r : Rule) (src : List ℕ) (at : ℕ) → left src at <
 unfolding field
 field-short w r src at h = rw (piece-short w src at h)
 
-pub field-refuses : {src : List ℕ} {w at : ℕ} {r : Rule} {f : Refusal} → NoField src w r at f → field w r src at ≡ refused f
+pub field-refuses : {src : List ℕ} {w at : ℕ} {r : Rule} {f : Refusal} → NoNumber src w r at f → field w r src at ≡ refused f
 field-refuses {src} {w} {at} {r} (ends-early h e) = field-short w r src at h ∙ ap refused (sym e)
 field-refuses {src} {w} {at} {r} (not-allowed n h a s e) = field-not w r n h a s ∙ ap refused (sym e)
 
@@ -80,11 +80,11 @@ piece-refused n src at p =
     let (t, e) = when-refused (leb n (left src at)) _ _ p in
     (leb-false n (left src at) t, e)
 
-field-refused : (w : ℕ) (r : Rule) (src : List ℕ) (at : ℕ) {f : Refusal} → Bytes src → field w r src at ≡ refused f → NoField src w r at f
+field-refused : (w : ℕ) (r : Rule) (src : List ℕ) (at : ℕ) {f : Refusal} → Bytes src → field w r src at ≡ refused f → NoNumber src w r at f
 unfolding field
 field-refused w r src at {f} b p = go (next-refused (piece w src at) _ p)
   where
-    go : (piece w src at ≡ refused f) ⊎ ((xs : List ℕ) × (piece w src at ≡ found xs) × (when (allows r (be xs)) (found (be xs)) (refused (breach r at (be xs))) ≡ refused f)) → NoField src w r at f
+    go : (piece w src at ≡ refused f) ⊎ ((xs : List ℕ) × (piece w src at ≡ found xs) × (when (allows r (be xs)) (found (be xs)) (refused (breach r at (be xs))) ≡ refused f)) → NoNumber src w r at f
     go (inl e) = let (h, same) = piece-refused w src at e in ends-early h same
     go (inr t) =
         let xs = t .0 in

@@ -26,7 +26,7 @@ pub data Meaning : Type 0 where
   bytesLeftOver : Meaning
   -- the kind that was asked for
   theKind : Meaning
-  -- one more byte than a record may have, 4,097
+  -- one more byte than the listing takes behind the kind, 4,097
   oneTooMany : Meaning
 
 -- a row of the format's table of faults

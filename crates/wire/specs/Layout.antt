@@ -18,6 +18,7 @@ pub data Rule : Type 0 where
   -- a count of at most m
   countTo : (m : ℕ) → Rule
 
+-- whether a rule takes a number
 abbrev pub allows : Rule → ℕ → Bool
 allows free n = true
 allows (listed p) n = p n

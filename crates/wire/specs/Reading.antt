@@ -25,6 +25,7 @@ abbrev pub next : {A B : Type 0} → Ans A → (A → Ans B) → Ans B
 next (found a) k = k a
 next (refused f) k = refused f
 
+-- the first answer where the test holds, and else the second
 abbrev pub when : {A : Type 0} → Bool → Ans A → Ans A → Ans A
 when true a b = a
 when false a b = b
@@ -34,6 +35,7 @@ pub record Parsed : Type 0 where
   pub parts : List Part
   pub stops : ℕ
 
+-- a record was found, with these parts, and ends there
 abbrev pub parsed : List Part → ℕ → Ans Parsed
 parsed ps e = found (record { parts = ps; stops = e })
 

@@ -18,9 +18,9 @@ pub record Field (src : List ℕ) (w : ℕ) (r : Rule) (at n : ℕ) : Type 0 whe
   pub stands : Stands src at (digits w n)
 
 -- no such number stands there: fewer bytes are left than it needs, or the rule does not allow the number that stands there
-pub data NoField (src : List ℕ) (w : ℕ) (r : Rule) (at : ℕ) (f : Refusal) : Type 0 where
-  ends-early : left src at < w → f ≡ short at w → NoField src w r at f
-  not-allowed : (n : ℕ) → n < 256 ^ w → allows r n ≡ false → Stands src at (digits w n) → f ≡ breach r at n → NoField src w r at f
+pub data NoNumber (src : List ℕ) (w : ℕ) (r : Rule) (at : ℕ) (f : Refusal) : Type 0 where
+  ends-early : left src at < w → f ≡ short at w → NoNumber src w r at f
+  not-allowed : (n : ℕ) → n < 256 ^ w → allows r n ≡ false → Stands src at (digits w n) → f ≡ breach r at n → NoNumber src w r at f
 
 -- Refuses src l at f: from the place `at` on, src is as a record of l, field by field, up to the first that is not; f names that one.
 -- RefusesItems src i n at f: the same of n items.
@@ -28,20 +28,20 @@ mutual
   pub data Refuses (src : List ℕ) : Layout → ℕ → Refusal → Type 0 where
     no-arm : {v at : ℕ} {f : Refusal} → f ≡ noSuchArm at v → Refuses src (noArm v) at f
     no-number : {w : ℕ} {r : Rule} {k : ℕ → Layout} {at : ℕ} {f : Refusal}
-        → NoField src w r at f
+        → NoNumber src w r at f
         → Refuses src (number w r k) at f
     no-bytes : {n at : ℕ} {l : Layout} {f : Refusal}
         → left src at < n → f ≡ short at n
         → Refuses src (plain n l) at f
     no-length : {w m at : ℕ} {l : Layout} {f : Refusal}
-        → NoField src w (lengthTo m) at f
+        → NoNumber src w (lengthTo m) at f
         → Refuses src (buffer w m l) at f
     no-body : {w m at : ℕ} {l : Layout} {f : Refusal} (n : ℕ)
         → Field src w (lengthTo m) at n
         → left src (at + w) < n → f ≡ short (at + w) n
         → Refuses src (buffer w m l) at f
     no-count : {m at : ℕ} {i l : Layout} {f : Refusal}
-        → NoField src 4 (countTo m) at f
+        → NoNumber src 4 (countTo m) at f
         → Refuses src (counted m i l) at f
     in-list : {m at : ℕ} {i l : Layout} {f : Refusal} (n : ℕ)
         → Field src 4 (countTo m) at n → RefusesItems src i n (at + 4) f

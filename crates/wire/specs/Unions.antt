@@ -19,6 +19,7 @@ row c t = record { code = c; chooses = t }
 abbrev pub own : ℕ → Row
 own c = row c c
 
+-- the first choice where the test holds, and else the second
 abbrev pub choose : Bool → Choice → Choice → Choice
 choose true a b = a
 choose false a b = b
@@ -36,6 +37,7 @@ pub record Case : Type 0 where
 abbrev pub case : ℕ → Layout → Case
 case t l = record { arm = t; holds = l }
 
+-- the first layout where the test holds, and else the second
 abbrev pub pick : Bool → Layout → Layout → Layout
 pick true a b = a
 pick false a b = b

@@ -94,6 +94,7 @@ abbrev pub written : (at : ℕ) → Ans (List ℕ) → (old : List ℕ) → Ans 
 written at (found bs) old = when (fits at bs old) (found (length bs)) (refused (noRoom at (length bs)))
 written at (refused f) old = refused f
 
+-- what is new where there is room, and else what was there
 abbrev pub picked : Bool → List ℕ → List ℕ → List ℕ
 picked true new old = new
 picked false new old = old
@@ -120,6 +121,7 @@ pickField (tag t ∷ ps) i asked src = pickField ps i asked src
 pickField (span start len ∷ ps) zero asked src = cut src start len 0
 pickField (span start len ∷ ps) (suc i) asked src = pickField ps i asked src
 
+-- the bytes of the byte field with that index, or a refusal
 unfoldable pub fieldOf : List Part → (index : ℕ) → List ℕ → Ans (List ℕ)
 fieldOf ps i src = pickField ps i i src
 

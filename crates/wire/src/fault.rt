@@ -181,7 +181,7 @@ impl Refusal {
         }
     }
 
-    // The record has more bytes than any may have.
+    // There are more than 4,096 bytes behind the kind, more than the listing takes.
     pub fn oversize() -> Refusal
         ensures { λ r. ⌜ r ≡ oversize ⌝ }
     {

@@ -34,6 +34,7 @@ impl Span {
     {
         self.len
     }
+
     // It lies inside a slice of n bytes.
     fn inside(self, n: usize) -> bool
         ensures { λ r. ⌜ r ≡ leb (startOf self + lenOf self) n ⌝ }

@@ -1,6 +1,5 @@
 // The widths of the numbers on the wire. A width is an enum, so that no width is out of range.
 ghost use mathlib.Core.Path.{_≡_};
-ghost use Prim.Native.Nat.{_≤_};
 ghost use Rattle.wire.specs.Answers.{widthOf};
 
 pub enum Width {

@@ -98,14 +98,14 @@ pub fn signature(x: TpmtSignature, src: &[u8], out: &mut [u8]) -> Measure
 pub fn public_area(x: TpmtPublic, src: &[u8], out: &mut [u8]) -> Measure
     ensures { λ r. ⌜ Writes publicArea (publicParts x) (now (src .entry)) (now (out .entry)) r (now (out .exit)) ⌝ }
 {
-    tpmt::public(Plan::empty(), x).write(src, out)
+    tpmt::public_area(Plan::empty(), x).write(src, out)
 }
 
 // Kind 12, TPMT_SENSITIVE, written.
 pub fn sensitive_area(x: TpmtSensitive, src: &[u8], out: &mut [u8]) -> Measure
     ensures { λ r. ⌜ Writes sensitive (sensitiveParts x) (now (src .entry)) (now (out .entry)) r (now (out .exit)) ⌝ }
 {
-    tpmt::sensitive(Plan::empty(), x).write(src, out)
+    tpmt::sensitive_area(Plan::empty(), x).write(src, out)
 }
 
 // Kind 13, TPMS_ATTEST, written.
@@ -119,5 +119,5 @@ pub fn attestation(x: TpmsAttest, src: &[u8], out: &mut [u8]) -> Measure
 pub fn pcr_selections(x: TpmlPcrSelection, src: &[u8], out: &mut [u8]) -> Measure
     ensures { λ r. ⌜ Writes pcrSelections (pcrSelectionsParts x) (now (src .entry)) (now (out .entry)) r (now (out .exit)) ⌝ }
 {
-    list::pcr_selection(Plan::empty(), x).write(src, out)
+    list::pcr_selections(Plan::empty(), x).write(src, out)
 }

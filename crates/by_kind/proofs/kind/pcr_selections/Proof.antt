@@ -16,8 +16,8 @@ enum-known-x c = search needs
 empty-requires : tie.Need-empty-requires
 empty-requires c κs = search needs
 
-pcr-selection-requires : tie.Need-pcr-selection-requires
-pcr-selection-requires c κs = search needs
+pcr-selections-requires : tie.Need-pcr-selections-requires
+pcr-selections-requires c κs = search needs
 
 enum-known-f : tie.Need-enum-known-f
 enum-known-f c = search needs
@@ -27,7 +27,7 @@ no-requires c κs = search needs
 
 returns : tie.Need-returns
 returns c =
-    found-planned (told pcrSelectionsAnswer (c .before .before .before .x .given .1) (c .before .before .before .before .before .unmarshal .ensures)) (c .before .empty .ensures) (c .pcr-selection .ensures) (omega arith)
+    found-planned (told pcrSelectionsAnswer (c .before .before .before .x .given .1) (c .before .before .before .before .before .unmarshal .ensures)) (c .before .empty .ensures) (c .pcr-selections .ensures) (omega arith)
 
 returns-2 : tie.Need-returns-2
 returns-2 c = none-planned (told pcrSelectionsAnswer (c .before .before .f .given .1) (c .before .before .before .before .unmarshal .ensures)) (c .no .ensures)
@@ -39,7 +39,7 @@ pcr-selections-spec =
     unmarshal-requires
     enum-known-x
     empty-requires
-    pcr-selection-requires
+    pcr-selections-requires
     enum-known-f
     no-requires
     returns

@@ -16,8 +16,8 @@ enum-known-x c = search needs
 empty-requires : tie.Need-empty-requires
 empty-requires c κs = search needs
 
-public-requires : tie.Need-public-requires
-public-requires c κs = search needs
+public-area-requires : tie.Need-public-area-requires
+public-area-requires c κs = search needs
 
 enum-known-f : tie.Need-enum-known-f
 enum-known-f c = search needs
@@ -27,7 +27,7 @@ no-requires c κs = search needs
 
 returns : tie.Need-returns
 returns c =
-    found-planned (told publicAnswer (c .before .before .before .x .given .1) (c .before .before .before .before .before .unmarshal .ensures)) (c .before .empty .ensures) (c .public .ensures) (omega arith)
+    found-planned (told publicAnswer (c .before .before .before .x .given .1) (c .before .before .before .before .before .unmarshal .ensures)) (c .before .empty .ensures) (c .public-area .ensures) (omega arith)
 
 returns-2 : tie.Need-returns-2
 returns-2 c = none-planned (told publicAnswer (c .before .before .f .given .1) (c .before .before .before .before .unmarshal .ensures)) (c .no .ensures)
@@ -39,7 +39,7 @@ public-area-spec =
     unmarshal-requires
     enum-known-x
     empty-requires
-    public-requires
+    public-area-requires
     enum-known-f
     no-requires
     returns

@@ -16,8 +16,8 @@ enum-known-x c = search needs
 empty-requires : tie.Need-empty-requires
 empty-requires c κs = search needs
 
-sensitive-requires : tie.Need-sensitive-requires
-sensitive-requires c κs = search needs
+sensitive-area-requires : tie.Need-sensitive-area-requires
+sensitive-area-requires c κs = search needs
 
 enum-known-f : tie.Need-enum-known-f
 enum-known-f c = search needs
@@ -27,7 +27,7 @@ no-requires c κs = search needs
 
 returns : tie.Need-returns
 returns c =
-    found-planned (told sensitiveAnswer (c .before .before .before .x .given .1) (c .before .before .before .before .before .unmarshal .ensures)) (c .before .empty .ensures) (c .sensitive .ensures) (omega arith)
+    found-planned (told sensitiveAnswer (c .before .before .before .x .given .1) (c .before .before .before .before .before .unmarshal .ensures)) (c .before .empty .ensures) (c .sensitive-area .ensures) (omega arith)
 
 returns-2 : tie.Need-returns-2
 returns-2 c = none-planned (told sensitiveAnswer (c .before .before .f .given .1) (c .before .before .before .before .unmarshal .ensures)) (c .no .ensures)
@@ -39,7 +39,7 @@ sensitive-area-spec =
     unmarshal-requires
     enum-known-x
     empty-requires
-    sensitive-requires
+    sensitive-area-requires
     enum-known-f
     no-requires
     returns

@@ -9,7 +9,7 @@ use Rattle.plans.specs.Steps.{sayWord}
 use Rattle.plans.proofs.Putting.{puts-none}
 use Rattle.text.specs.Text.{lineText}
 use Rattle.text.proofs.Rows.{puts-same, number-line-length}
-use Rattle.listing.specs.Judged.{Owed}
+use Rattle.listing.specs.Listable.{Asked}
 use Rattle.listing.proofs.Parts.{one-line, span-line-length, buffer-lines-length}
 use Rattle.listing.proofs.step.put_step_lines.Statement.{statement}
 use Rattle.listing.proofs.step.put_step_lines.Tie as tie
@@ -27,19 +27,19 @@ enum-known-step-2 : tie.Need-enum-known-step-2
 enum-known-step-2 c = search needs
 
 put-span-line-requires : tie.Need-put-span-line-requires
-put-span-line-requires c κs = let a = c .before .before .before .before .before .before in let (l, p, s, r) = subst (λ z. Owed z (a .args .src .now) (a .args .place) (a .args .at) (length (a .args .out .now))) (c .before .before .step2 .given .1) (a .pre) in (l, omega arith)
+put-span-line-requires c κs = let a = c .before .before .before .before .before .before in let (l, p, s, r) = subst (λ z. Asked z (a .args .src .now) (a .args .place) (a .args .at) (length (a .args .out .now))) (c .before .before .step2 .given .1) (a .pre) in (l, omega arith)
 
 enum-known-step-3 : tie.Need-enum-known-step-3
 enum-known-step-3 c = search needs
 
 put-buffer-lines-requires : tie.Need-put-buffer-lines-requires
-put-buffer-lines-requires c κs = let a = c .before .before .before .before .before .before in let (l, p, s, r) = subst (λ z. Owed z (a .args .src .now) (a .args .place) (a .args .at) (length (a .args .out .now))) (c .before .before .step3 .given .1) (a .pre) in (l, omega arith, omega arith)
+put-buffer-lines-requires c κs = let a = c .before .before .before .before .before .before in let (l, p, s, r) = subst (λ z. Asked z (a .args .src .now) (a .args .place) (a .args .at) (length (a .args .out .now))) (c .before .before .step3 .given .1) (a .pre) in (l, omega arith, omega arith)
 
 enum-known-step-4 : tie.Need-enum-known-step-4
 enum-known-step-4 c = search needs
 
 put-list-lines-requires : tie.Need-put-list-lines-requires
-put-list-lines-requires c κs = let a = c .before .before .before .before .before .before in let (l, p, s, r) = subst (λ z. Owed z (a .args .src .now) (a .args .place) (a .args .at) (length (a .args .out .now))) (c .before .before .step4 .given .1) (a .pre) in (l, p, s, r)
+put-list-lines-requires c κs = let a = c .before .before .before .before .before .before in let (l, p, s, r) = subst (λ z. Asked z (a .args .src .now) (a .args .place) (a .args .at) (length (a .args .out .now))) (c .before .before .step4 .given .1) (a .pre) in (l, p, s, r)
 
 enum-told : tie.Need-enum-told
 enum-told c = search needs
@@ -57,13 +57,13 @@ same-length-2 : tie.Need-same-length-2
 same-length-2 c = search needs
 
 returns-2 : tie.Need-returns-2
-returns-2 c = let put = c .before .before .put-span-line .ensures in let a = c .before .before .before .before .before .before .before .before .before in let t = c .before .before .before .before .before .step2 .given .0 .1 .0 in let (l, p, s, r) = subst (λ z. Owed z (a .args .src .now) (a .args .place) (a .args .at) (length (a .args .out .now))) (c .before .before .before .before .before .step2 .given .1) (a .pre) in rw (c .before .before .before .before .before .step2 .given .1) (put, omega (arith, put .behind, span-line-length (a .args .place) t (a .args .src .now) l))
+returns-2 c = let put = c .before .before .put-span-line .ensures in let a = c .before .before .before .before .before .before .before .before .before in let t = c .before .before .before .before .before .step2 .given .0 .1 .0 in let (l, p, s, r) = subst (λ z. Asked z (a .args .src .now) (a .args .place) (a .args .at) (length (a .args .out .now))) (c .before .before .before .before .before .step2 .given .1) (a .pre) in rw (c .before .before .before .before .before .step2 .given .1) (put, omega (arith, put .behind, span-line-length (a .args .place) t (a .args .src .now) l))
 
 same-length-3 : tie.Need-same-length-3
 same-length-3 c = search needs
 
 returns-3 : tie.Need-returns-3
-returns-3 c = let put = c .before .before .put-buffer-lines .ensures in let a = c .before .before .before .before .before .before .before .before .before in let t = c .before .before .before .before .before .step3 .given .0 .1 .0 in let (l, p, s, r) = subst (λ z. Owed z (a .args .src .now) (a .args .place) (a .args .at) (length (a .args .out .now))) (c .before .before .before .before .before .step3 .given .1) (a .pre) in rw (c .before .before .before .before .before .step3 .given .1) (put, omega (arith, put .behind, buffer-lines-length (a .args .place) t (a .args .src .now) l))
+returns-3 c = let put = c .before .before .put-buffer-lines .ensures in let a = c .before .before .before .before .before .before .before .before .before in let t = c .before .before .before .before .before .step3 .given .0 .1 .0 in let (l, p, s, r) = subst (λ z. Asked z (a .args .src .now) (a .args .place) (a .args .at) (length (a .args .out .now))) (c .before .before .before .before .before .step3 .given .1) (a .pre) in rw (c .before .before .before .before .before .step3 .given .1) (put, omega (arith, put .behind, buffer-lines-length (a .args .place) t (a .args .src .now) l))
 
 same-length-4 : tie.Need-same-length-4
 same-length-4 c = search needs

@@ -3,7 +3,7 @@ use borrow.Author.Needs.{needs}
 use native.Mathlib.Omega.{arith}
 use mathlib.Core.Path.{ap, subst}
 use Prim.Native.Nat.{_+_, _≤_}
-use Rattle.listing.specs.Judged.{stepSize}
+use Rattle.listing.specs.Listable.{stepSize}
 use Rattle.listing.proofs.step.step_size.Statement.{statement}
 use Rattle.listing.proofs.step.step_size.Tie as tie
 

@@ -7,8 +7,8 @@ use Rattle.writing.proofs.marshal.public_area.Tie as tie
 empty-requires : tie.Need-empty-requires
 empty-requires c κs = search needs
 
-public-requires : tie.Need-public-requires
-public-requires c κs = search needs
+public-area-requires : tie.Need-public-area-requires
+public-area-requires c κs = search needs
 
 write-requires : tie.Need-write-requires
 write-requires c κs = search needs
@@ -17,8 +17,8 @@ same-length : tie.Need-same-length
 same-length c = search needs
 
 returns : tie.Need-returns
-returns c = marshalled (c .before .before .before .before .before .empty .ensures .0) (c .before .before .before .before .public .ensures) (c .before .before .write .ensures)
+returns c = marshalled (c .before .before .before .before .before .empty .ensures .0) (c .before .before .before .before .public-area .ensures) (c .before .before .write .ensures)
 
 pub public-area-spec : {M : Type 1} → statement M
 public-area-spec =
-    tie.close (tie.spec empty-requires public-requires write-requires same-length returns)
+    tie.close (tie.spec empty-requires public-area-requires write-requires same-length returns)

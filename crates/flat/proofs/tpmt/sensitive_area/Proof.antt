@@ -5,8 +5,8 @@ use Rattle.wire.specs.declared.width.Width.the-variants.{Two}
 use Rattle.kinds.specs.Codes.{alg}
 use Rattle.kinds.specs.Kinds.{sensitive}
 use Rattle.plans.proofs.Laws.{adds-number, adds-buffer}
-use Rattle.flat.proofs.tpmt.sensitive.Statement.{statement}
-use Rattle.flat.proofs.tpmt.sensitive.Tie as tie
+use Rattle.flat.proofs.tpmt.sensitive_area.Statement.{statement}
+use Rattle.flat.proofs.tpmt.sensitive_area.Tie as tie
 
 algorithm-requires : tie.Need-algorithm-requires
 algorithm-requires c κs = search needs
@@ -27,8 +27,8 @@ returns c =
     (adds-buffer 64 _ (omega arith) (c .before .before .buffer .ensures)
     (adds-buffer 64 _ (omega arith) (c .before .buffer2 .ensures) (c .sensitive-composite .ensures)))
 
-pub sensitive-spec : {M : Type 1} → statement M
-sensitive-spec =
+pub sensitive-area-spec : {M : Type 1} → statement M
+sensitive-area-spec =
     tie.close
     (tie.spec
     algorithm-requires

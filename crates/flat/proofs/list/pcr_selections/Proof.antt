@@ -2,8 +2,8 @@
 use borrow.Author.Needs.{needs}
 use Rattle.kinds.specs.Kinds.{pcrSelections}
 use Rattle.plans.proofs.Laws.{adds-last-list}
-use Rattle.flat.proofs.list.pcr_selection.Statement.{statement}
-use Rattle.flat.proofs.list.pcr_selection.Tie as tie
+use Rattle.flat.proofs.list.pcr_selections.Statement.{statement}
+use Rattle.flat.proofs.list.pcr_selections.Tie as tie
 
 push-requires : tie.Need-push-requires
 push-requires c κs = search needs
@@ -12,5 +12,5 @@ returns : tie.Need-returns
 unfolding pcrSelections
 returns c = adds-last-list _ (c .push .ensures)
 
-pub pcr-selection-spec : {M : Type 1} → statement M
-pcr-selection-spec = tie.close (tie.spec push-requires returns)
+pub pcr-selections-spec : {M : Type 1} → statement M
+pcr-selections-spec = tie.close (tie.spec push-requires returns)

@@ -6,8 +6,8 @@ use Rattle.wire.specs.Layout.{free}
 use Rattle.kinds.specs.Codes.{alg}
 use Rattle.kinds.specs.Kinds.{publicArea}
 use Rattle.plans.proofs.Laws.{adds-then, adds-number, adds-buffer}
-use Rattle.flat.proofs.tpmt.public.Statement.{statement}
-use Rattle.flat.proofs.tpmt.public.Tie as tie
+use Rattle.flat.proofs.tpmt.public_area.Statement.{statement}
+use Rattle.flat.proofs.tpmt.public_area.Tie as tie
 
 algorithm-requires : tie.Need-algorithm-requires
 algorithm-requires c κs = search needs
@@ -36,8 +36,8 @@ returns c =
     (adds-buffer 64 _ (omega arith) (c .before .before .buffer .ensures)
     (adds-then (c .before .public-parms .ensures) (c .public-id .ensures)))))
 
-pub public-spec : {M : Type 1} → statement M
-public-spec =
+pub public-area-spec : {M : Type 1} → statement M
+public-area-spec =
     tie.close
     (tie.spec
     algorithm-requires

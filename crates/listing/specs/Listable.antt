@@ -34,5 +34,5 @@ stepSize (Step.Fails f) = 0
 
 -- What is asked of a step at a place, and of the room k for its lines from `at` on. No step has longer lines than a list of 16 items: 70
 -- for its count and 190 for each item, which makes 3,110, and two digits for each byte of the step
-abbrev pub Owed : Step → (src : List ℕ) (place at k : ℕ) → Type 0
-Owed s src place at k = Listable s src × (place ≤ 0x10000) × (length src ≤ 0x10000) × (at + (3110 + 2 * stepSize s) ≤ k)
+abbrev pub Asked : Step → (src : List ℕ) (place at k : ℕ) → Type 0
+Asked s src place at k = Listable s src × (place ≤ 0x10000) × (length src ≤ 0x10000) × (at + (3110 + 2 * stepSize s) ≤ k)
