@@ -1,25 +1,39 @@
 -- The promises of reading, for the code: what follows from the equation with `read` that every reader ensures. Its answer, as the
 -- `.. Answer` of its type means it, is `a`; `told` is that equation, for the layout of the kind's number. Assumes nothing.
-use Prim.Native.Nat.{ℕ, _+_, _≤_}
+use Prim.Native.Nat.{ℕ, _+_, _≤_, _<_}
+use native.Mathlib.Omega.{arith}
+use borrow.Author.Tests.{lt-leb, eqb-true, eq-eqb}
 use mathlib.Core.Path.{_≡_, refl, sym, ap, _∙_}
 use mathlib.Core.Logic.{_⊎_, inl, inr}
-use mathlib.Core.List.{List, _∷_, _++_}
-use lib.ListN.{length}
+use mathlib.Core.Bool.{true, false, false≢true}
+use mathlib.Core.List.{List, [], _∷_, _++_, append-nil}
+use lib.ListN.{length, drop, length-drop}
+use lib.Seq.{drop-at, drop-drop}
+use Rattle.wire.specs.declared.choice.Choice.{Choice}
+use Rattle.wire.specs.declared.measure.Measure.{Measure}
 use Rattle.wire.specs.declared.fault.Fault.the-variants.{Short}
 use Rattle.wire.specs.declared.fault.Refusal.{Refusal}
+use Rattle.wire.specs.Answers.{measureAnswer}
 use Rattle.wire.specs.Bytes.{Bytes}
+use Rattle.wire.specs.Faults.{badKind, trailing}
 use Rattle.wire.specs.Layout.{Layout, noArm}
-use Rattle.wire.specs.Reading.{Part, Ans, refused, Parsed, parsed, read, readWhole}
+use Rattle.wire.specs.Reading.{Part, Ans, refused, Parsed, parsed, left, read, readWhole}
 use Rattle.wire.specs.Grammar.{Token, Spells, Stands, Starts, placed, shown}
 use Rattle.wire.specs.Refusals.{Refuses}
+use Rattle.wire.specs.Unions.{isArm}
 use Rattle.wire.specs.Editions.{Later, Newer, Foreign}
 use Rattle.wire.proofs.Steps.{parsed-same}
 use Rattle.wire.proofs.Complete.{read-complete, placed-shows}
 use Rattle.wire.proofs.Prefix.{starts-read}
 use Rattle.wire.proofs.Stable.{IsShort}
-use Rattle.wire.proofs.Later.{later-read}
-use Rattle.wire.proofs.Whole.{whole-is-read}
-use Rattle.kinds.specs.Kinds.{ha, symDef, kdfScheme, keyedhashScheme, sigScheme, asymScheme, publicParms, signature, publicArea, sensitive, attest, pcrSelections, kinds, layoutOf}
+use Rattle.wire.proofs.Later.{Verdict, later}
+use Rattle.wire.proofs.Refused.{refuses-read}
+use Rattle.wire.proofs.Answers.{measure-answer-once}
+use Rattle.wire.proofs.Whole.{whole-is-read, read-is-whole, read-is-trailing}
+use Rattle.kinds.specs.Kinds.{ha, symDef, kdfScheme, keyedhashScheme, sigScheme, asymScheme, publicParms, signature, publicArea, sensitive, attest, pcrSelections, kinds, isKind, layoutOf, readKind}
+use Rattle.records.specs.Ends.{endOf}
+use Rattle.records.proofs.ByKind.{no-kind}
+use Rattle.records.proofs.Wholes.{whole-refused}
 use Rattle.records.proofs.Promises as promises
 
 -- ---- which layout a kind has
@@ -50,6 +64,15 @@ module _ (k : ℕ) (src : List ℕ) (at : ℕ) {a : Ans Parsed} (told : a ≡ re
       let same = parsed-same (sym there ∙ starts-read d) .0 in
       (d, same, ap (λ qs. shown src qs) same ∙ placed-shows (d .spells) (d .stands))
 
+  -- its tail is all that stands behind that record
+  pub tail-is-the-rest : {ps : List Part} {e : ℕ} {tail : List ℕ} → Bytes src → a ≡ parsed ps e → tail ≡ drop e src
+      → (d : Starts (layoutOf k) src at e) × (drop at src ≡ d .front ++ tail)
+  tail-is-the-rest b found rest =
+      let d = accepted-is-legal b found .0 in
+      let n = length (d .front) in
+      let behind = sym (drop-at (d .front) (d .stands .rest) n refl) ∙ ap (λ xs. drop n xs) (sym (d .stands .begins)) ∙ drop-drop n at src ∙ ap (λ m. drop m src) (sym (d .ends)) in
+      (d, d .stands .begins ∙ ap (λ xs. d .front ++ xs) (behind ∙ sym rest))
+
   -- a legal record that starts there is accepted, with its fields, and ends where it ends, whatever stands behind
   pub legal-is-accepted : {ts : List Token} {bs : List ℕ} (d : Spells (layoutOf k) ts bs) → Stands src at bs
       → (a ≡ parsed (placed d at) (at + length bs)) × (shown src (placed d at) ≡ ts)
@@ -70,15 +93,16 @@ module _ (k : ℕ) (src : List ℕ) (at : ℕ) {a : Ans Parsed} (told : a ≡ re
   pub first-is-refusal : {f : Refusal} → Refuses src (layoutOf k) at f → a ≡ refused f
   first-is-refusal faulty = told ∙ promises.first-is-refusal k faulty
 
-  -- where a legal record of a later edition starts, the answer is that edition's, or a refusal at the first code or arm that is not ours
-  pub later-edition : {l′ : Layout} {ts : List Token} {bs : List ℕ} → Later (layoutOf k) l′ → Spells l′ ts bs → Stands src at bs
-      → (a ≡ read l′ src at) ⊎ ((f : Refusal) × Foreign (layoutOf k) src at f × (a ≡ refused f))
-  later-edition {l′} x d stands = by (later-read x d stands)
+  -- where a legal record of a later edition starts: if its codes and arms are all ours, so that it is a record of ours too, it is
+  -- accepted with its fields and ends where it ends; any other is refused at the first code or arm that is not ours
+  pub later-edition : {l′ : Layout} {ts : List Token} {bs : List ℕ} → Later (layoutOf k) l′ → (d : Spells l′ ts bs) → Stands src at bs
+      → (Spells (layoutOf k) ts bs × (a ≡ parsed (placed d at) (at + length bs))) ⊎ ((f : Refusal) × Foreign (layoutOf k) src at f × (a ≡ refused f))
+  later-edition {ts = ts} {bs = bs} x d stands = by (later x d stands)
     where
-      by : (read (layoutOf k) src at ≡ read l′ src at) ⊎ ((f : Refusal) × Foreign (layoutOf k) src at f × (read (layoutOf k) src at ≡ refused f))
-          → (a ≡ read l′ src at) ⊎ ((f : Refusal) × Foreign (layoutOf k) src at f × (a ≡ refused f))
-      by (inl same) = inl (told ∙ same)
-      by (inr (f, foreign, p)) = inr (f, foreign, told ∙ p)
+      by : Verdict (layoutOf k) d src at
+          → (Spells (layoutOf k) ts bs × (a ≡ parsed (placed d at) (at + length bs))) ⊎ ((f : Refusal) × Foreign (layoutOf k) src at f × (a ≡ refused f))
+      by (inl (c, same)) = inl (c, told ∙ read-complete c stands ∙ ap (λ ps. parsed ps (at + length bs)) (same at))
+      by (inr (f, newer, first)) = inr (f, record { newer = newer; first = first }, told ∙ refuses-read first)
 
 -- ---- a record that is cut
 
@@ -98,3 +122,42 @@ module _ (k : ℕ) (src : List ℕ) (at : ℕ) {a : Ans Parsed} (told : a ≡ re
   -- what is accepted whole is accepted as a prefix, and nothing stands behind it
   pub whole-has-no-tail : {ps : List Part} {e : ℕ} → a ≡ parsed ps e → (read (layoutOf k) src at ≡ parsed ps e) × (length src ≤ e)
   whole-has-no-tail found = whole-is-read (layoutOf k) src at (sym told ∙ found)
+
+  -- a legal record that is all that stands there is accepted
+  pub legal-is-accepted-whole : {ts : List Token} {bs : List ℕ} (d : Spells (layoutOf k) ts bs) → drop at src ≡ bs → a ≡ parsed (placed d at) (at + length bs)
+  legal-is-accepted-whole {bs = bs} d all =
+      let stands : Stands src at bs = record { rest = []; begins = all ∙ sym (append-nil bs) } in
+      told ∙ read-is-whole (layoutOf k) src at (read-complete d stands) (omega (arith, ap length all, length-drop at src))
+
+  -- with bytes behind it, it is Trailing: where it ends, and how many are left
+  pub tail-is-trailing : {e : ℕ} → Starts (layoutOf k) src at e → e < length src → a ≡ refused (trailing e (left src e))
+  tail-is-trailing {e} d more = told ∙ read-is-trailing (layoutOf k) src at (starts-read d) (lt-leb (length src) e more)
+
+  -- where none starts, the first fault in wire order is answered
+  pub whole-first-is-refusal : {f : Refusal} → Refuses src (layoutOf k) at f → a ≡ refused f
+  whole-first-is-refusal faulty = told ∙ sym (whole-refused (layoutOf k) src at (sym (refuses-read faulty)))
+
+-- ---- where a record ends, by its kind's number
+
+module _ (k : ℕ) (src : List ℕ) (at : ℕ) {r : Measure} (told : measureAnswer r ≡ endOf (readKind k src at)) where
+  -- the end that `record_end` answers is where a legal record of that kind ends
+  pub end-is-legal : {e : ℕ} → Bytes src → isKind k ≡ true → r ≡ Measure.Size e → Starts (layoutOf k) src at e
+  end-is-legal b some given = promises.end-is-legal k src at b some (sym told ∙ ap measureAnswer given)
+
+  -- where one ends, that end is answered
+  pub legal-has-end : {e : ℕ} → isKind k ≡ true → Starts (layoutOf k) src at e → r ≡ Measure.Size e
+  legal-has-end {e} some d = measure-answer-once r (Measure.Size e) (told ∙ promises.legal-has-end k some d)
+
+  -- and a number that is no kind is refused as such
+  pub no-kind-has-no-end : isKind k ≡ false → r ≡ Measure.No (badKind k)
+  no-kind-has-no-end none = measure-answer-once r (Measure.No (badKind k)) (told ∙ sym (no-kind k src at none))
+
+-- ---- arms
+
+-- `matches_tag` says yes exactly when the arm that is held is the one that the selector chooses
+pub matches-the-chosen : (c : Choice) (t : ℕ) → isArm c t ≡ true → c ≡ Choice.The t
+matches-the-chosen Choice.Nothing t e = absurd (false≢true e)
+matches-the-chosen (Choice.The u) t e = ap Choice.The (sym (eqb-true t u e))
+
+pub chosen-matches : (c : Choice) (t : ℕ) → c ≡ Choice.The t → isArm c t ≡ true
+chosen-matches c t e = rw (e, eq-eqb t t refl)
