@@ -77,7 +77,7 @@ static void print_counts(const char *what, const struct kind_tally *counts, bool
                 with_reasons ? rules[rule].reason : "");
 }
 
-void print_tally(const struct tally *tally)
+void print_tally(const struct tally *tally, uint64_t different)
 {
     char what[80];
     struct kind_tally sum = {0};
@@ -87,7 +87,8 @@ void print_tally(const struct tally *tally)
         print_counts(what, &tally->kinds[kind], false);
     }
     print_counts("all kinds", &sum, true);
-    printf("compared %llu: alike %llu, differing by a rule %llu, unexplained %llu\n", (unsigned long long)sum.inputs,
+    printf("compared %llu, of which %llu are different: alike %llu, differing by a rule %llu, unexplained %llu\n",
+        (unsigned long long)sum.inputs, (unsigned long long)different,
         (unsigned long long)(sum.both_read + sum.both_refuse), (unsigned long long)by_rules,
         (unsigned long long)tally->unexplained);
 }

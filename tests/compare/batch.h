@@ -26,6 +26,6 @@ void make_batch(struct batch *batch, uint64_t seed, uint64_t first, size_t count
 bool answer_batch(struct batch *batch, char *const command[]);
 // Adds to the counts and answers how many are unexplained; prints the first few of them if it is to.
 uint64_t judge_batch(const struct batch *batch, int left_out, struct tally *tally, bool prints);
-void print_tally(const struct tally *tally);
+void print_tally(const struct tally *tally, uint64_t different);
 
 #endif

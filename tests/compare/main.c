@@ -1,6 +1,7 @@
 // compare COUNT SEED SAMPLES COMMAND...: runs COUNT inputs through COMMAND and through libtss2-mu and compares the answers.
 // Ends with 0 if nothing was left unexplained, 1 if something was, 2 if it could not run.
 #include "batch.h"
+#include "different.h"
 #include "reference.h"
 #include "samples.h"
 #include "trial.h"
@@ -23,13 +24,14 @@ static int run_all(uint64_t count, uint64_t seed, char *const command[])
     for (uint64_t first = 0; first < count; first += BATCH) {
         size_t size = count - first < BATCH ? (size_t)(count - first) : BATCH;
         make_batch(&batch, seed, first, size);
+        note_inputs(batch.inputs, size);
         if (!answer_batch(&batch, command))
             return 2;
         if (judge_batch(&batch, NO_RULE, &tally, true) != 0)
             break;
         show_progress(first + size, count);
     }
-    print_tally(&tally);
+    print_tally(&tally, different_inputs());
     return tally.unexplained == 0 ? 0 : 1;
 }
 

@@ -108,6 +108,14 @@ static void make_value(struct maker *maker, uint64_t good, uint64_t bad, size_t 
     put_number(maker, is_fault_due(maker) ? bad : good, width);
 }
 
+// C leaves open which argument of a call comes first, and the input has to follow from the seed.
+static void make_yes_no(struct maker *maker)
+{
+    uint64_t good = random_below(maker->random, 2);
+    uint64_t bad = random_below(maker->random, 256);
+    make_value(maker, good, bad, 1);
+}
+
 // At or past the limit, or at a limit of another buffer.
 static size_t faulty_length(struct maker *maker, size_t limit)
 {
@@ -173,7 +181,7 @@ static void make_field(struct maker *maker, const struct field *field, unsigned 
 {
     switch (field->what) {
     case YES_NO:
-        make_value(maker, random_below(maker->random, 2), random_below(maker->random, 256), 1);
+        make_yes_no(maker);
         break;
     case MAGIC:
         make_value(maker, MAGIC_NUMBER, random_number(maker->random), 4);

@@ -1,4 +1,4 @@
-// The deposits that the program is tested with, by kind: real records, and cut and changed copies of them.
+// The deposits that the program is tested with, by kind (tests/vectors/README.md).
 #ifndef SAMPLES_H
 #define SAMPLES_H
 

@@ -5,7 +5,7 @@
 #include <stdlib.h>
 
 // No answer to an input of at most 4,096 bytes comes near the room; more would be a fault of this program.
-static void has_room(const struct text *text, size_t more)
+static void require_room(const struct text *text, size_t more)
 {
     if (text->size + more < TEXT_ROOM)
         return;
@@ -25,14 +25,14 @@ void text_add(struct text *text, const char *format, ...)
     va_start(values, format);
     int more = vsnprintf(text->chars + text->size, TEXT_ROOM - text->size, format, values);
     va_end(values);
-    has_room(text, (size_t)more);
+    require_room(text, (size_t)more);
     text->size += (size_t)more;
 }
 
 void text_add_hex(struct text *text, const uint8_t *bytes, size_t size)
 {
     static const char digits[] = "0123456789abcdef";
-    has_room(text, 2 * size + 1);
+    require_room(text, 2 * size + 1);
     for (size_t i = 0; i < size; i++) {
         text->chars[text->size++] = digits[bytes[i] >> 4];
         text->chars[text->size++] = digits[bytes[i] & 15];

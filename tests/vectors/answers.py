@@ -16,5 +16,5 @@ def read(kind, fields, tail):
 
 
 def again(data):
-    """The line for the bytes that the writer gives for the record that was read."""
+    """The line for the bytes that a record that was read is written as."""
     return f'again {data.hex()}\n'
