@@ -1,9 +1,12 @@
 // Lists every deposit on standard input: two bytes that say how long it is, then the deposit, and then the next. Behind the listing of a
 // record that was read comes the line `again`, with the bytes that it is written as.
-use by_kind::kind::plan_of;
+mod again;
+
+use again::written_again;
 use kinds::uint::Uint16Read;
 use kinds::uint::uint16;
 use listing::deposit::list_deposit;
+use records::kind::record_end;
 use text::put::put_hex;
 use wire::measure::Measure;
 
@@ -34,11 +37,8 @@ fn write_again_line(bytes: &[u8], out: &mut [u8]) {
 }
 
 fn write_again(kind: u8, bytes: &[u8], again: &mut [u8], out: &mut [u8]) {
-    let answer = plan_of(kind, bytes);
-    let plan = answer.plan;
-    let end = answer.end;
-    match end {
-        Measure::Size(_) => match plan.write(bytes, again) {
+    match record_end(kind, bytes, 0) {
+        Measure::Size(_) => match written_again(kind, bytes, again) {
             Measure::Size(n) => {
                 if n <= again.len() {
                     write_again_line(&again[..n], out);

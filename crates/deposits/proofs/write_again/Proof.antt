@@ -1,19 +1,19 @@
--- A plan that was answered can be written, and what is lent lies in the slice. Assumes nothing.
-use borrow.Author.Needs.{needs}
+-- What is lent lies in the slice. Assumes nothing.
 use native.Mathlib.Omega.{arith}
 use mathlib.Core.Path.{sym}
 use lib.Seq.{length-take-le}
+use borrow.Author.Needs.{needs}
 use Rattle.deposits.proofs.write_again.Statement.{statement}
 use Rattle.deposits.proofs.write_again.Tie as tie
 
-plan-of-requires : tie.Need-plan-of-requires
-plan-of-requires c κs = search needs
+record-end-requires : tie.Need-record-end-requires
+record-end-requires c κs = search needs
 
 enum-told : tie.Need-enum-told
 enum-told c = search needs
 
-write-requires : tie.Need-write-requires
-write-requires c κs = c .before .before .before .before .plan-of .ensures .plan (c .before .enum-told .given .1) .2 .room
+written-again-requires : tie.Need-written-again-requires
+written-again-requires c κs = search needs
 
 enum-known-n : tie.Need-enum-known-n
 enum-known-n c = search needs
@@ -61,9 +61,9 @@ pub write-again-spec : {M : Type 1} → statement M
 write-again-spec =
     tie.close
     (tie.spec
-    plan-of-requires
+    record-end-requires
     enum-told
-    write-requires
+    written-again-requires
     enum-known-n
     slice-reshare-prefix-write-again-line
     slice-aggregate-write-again-line
