@@ -5,6 +5,7 @@ mod again;
 use again::written_again;
 use kinds::uint::Uint16Read;
 use kinds::uint::uint16;
+use listing::deposit::LISTING_ROOM;
 use listing::deposit::list_deposit;
 use records::kind::record_end;
 use text::put::put_hex;
@@ -73,7 +74,7 @@ fn next_length() -> usize {
 // Answers a deposit of that length, if space has room for one and so many bytes come.
 fn answer_one(length: usize, space: &mut [u8]) -> bool {
     let mut again = [0u8; 4096];
-    let mut out = [0u8; 98304];
+    let mut out = [0u8; LISTING_ROOM];
     if length > space.len() {
         return false;
     }
