@@ -1,13 +1,13 @@
 // Tries all 65,536 algorithm codes, and writes those that are read, and how many they are.
-use kinds::codes::AlgRead;
 use kinds::codes::TpmAlgId;
+use kinds::codes::TpmAlgIdRead;
 ghost use Prim.Native.Nat.{_+_, _≤_, _<_};
 
 fn is_read(high: u8, low: u8) -> bool {
     let code = [high, low];
     match TpmAlgId::unmarshal(&code, 0) {
-        AlgRead::Found(_, _) => true,
-        AlgRead::No(_) => false,
+        TpmAlgIdRead::Found(_, _) => true,
+        TpmAlgIdRead::No(_) => false,
     }
 }
 

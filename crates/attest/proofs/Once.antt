@@ -15,58 +15,58 @@ use Rattle.attest.specs.declared.tpms.TpmsSessionAuditInfo.{TpmsSessionA
 use Rattle.attest.specs.declared.tpms.TpmsTimeAttestInfo.{TpmsTimeAttestInfo}
 use Rattle.attest.specs.declared.tpms.TpmsNvCertifyInfo.{TpmsNvCertifyInfo}
 use Rattle.attest.specs.declared.tpms.TpmsNvDigestCertifyInfo.{TpmsNvDigestCertifyInfo}
-use Rattle.attest.specs.declared.tpms.ClockInfoRead.{ClockInfoRead}
-use Rattle.attest.specs.declared.tpms.TimeInfoRead.{TimeInfoRead}
-use Rattle.attest.specs.declared.tpms.CertifyInfoRead.{CertifyInfoRead}
-use Rattle.attest.specs.declared.tpms.CreationInfoRead.{CreationInfoRead}
-use Rattle.attest.specs.declared.tpms.QuoteInfoRead.{QuoteInfoRead}
-use Rattle.attest.specs.declared.tpms.CommandAuditInfoRead.{CommandAuditInfoRead}
-use Rattle.attest.specs.declared.tpms.SessionAuditInfoRead.{SessionAuditInfoRead}
-use Rattle.attest.specs.declared.tpms.TimeAttestInfoRead.{TimeAttestInfoRead}
-use Rattle.attest.specs.declared.tpms.NvCertifyInfoRead.{NvCertifyInfoRead}
-use Rattle.attest.specs.declared.tpms.NvDigestCertifyInfoRead.{NvDigestCertifyInfoRead}
+use Rattle.attest.specs.declared.tpms.TpmsClockInfoRead.{TpmsClockInfoRead}
+use Rattle.attest.specs.declared.tpms.TpmsTimeInfoRead.{TpmsTimeInfoRead}
+use Rattle.attest.specs.declared.tpms.TpmsCertifyInfoRead.{TpmsCertifyInfoRead}
+use Rattle.attest.specs.declared.tpms.TpmsCreationInfoRead.{TpmsCreationInfoRead}
+use Rattle.attest.specs.declared.tpms.TpmsQuoteInfoRead.{TpmsQuoteInfoRead}
+use Rattle.attest.specs.declared.tpms.TpmsCommandAuditInfoRead.{TpmsCommandAuditInfoRead}
+use Rattle.attest.specs.declared.tpms.TpmsSessionAuditInfoRead.{TpmsSessionAuditInfoRead}
+use Rattle.attest.specs.declared.tpms.TpmsTimeAttestInfoRead.{TpmsTimeAttestInfoRead}
+use Rattle.attest.specs.declared.tpms.TpmsNvCertifyInfoRead.{TpmsNvCertifyInfoRead}
+use Rattle.attest.specs.declared.tpms.TpmsNvDigestCertifyInfoRead.{TpmsNvDigestCertifyInfoRead}
 use Rattle.attest.specs.declared.tpmu.TpmuAttest.{TpmuAttest}
-use Rattle.attest.specs.declared.tpmu.AttestArmRead.{AttestArmRead}
+use Rattle.attest.specs.declared.tpmu.TpmuAttestRead.{TpmuAttestRead}
 use Rattle.attest.specs.declared.attestation.TpmsAttest.{TpmsAttest}
-use Rattle.attest.specs.declared.attestation.AttestRead.{AttestRead}
-use Rattle.attest.specs.Parts.{clockInfoParts, timeInfoParts, certifyInfoParts, creationInfoParts, quoteInfoParts, commandAuditInfoParts, sessionAuditInfoParts, timeAttestInfoParts, nvCertifyInfoParts, nvDigestCertifyInfoParts, attestedParts, attestParts}
-use Rattle.attest.specs.Answers.{clockInfoAnswer, timeInfoAnswer, certifyInfoAnswer, creationInfoAnswer, quoteInfoAnswer, commandAuditInfoAnswer, sessionAuditInfoAnswer, timeAttestInfoAnswer, nvCertifyInfoAnswer, nvDigestCertifyInfoAnswer, attestedAnswer, attestAnswer}
+use Rattle.attest.specs.declared.attestation.TpmsAttestRead.{TpmsAttestRead}
+use Rattle.attest.specs.Parts.{tpmsClockInfoParts, tpmsTimeInfoParts, tpmsCertifyInfoParts, tpmsCreationInfoParts, tpmsQuoteInfoParts, tpmsCommandAuditInfoParts, tpmsSessionAuditInfoParts, tpmsTimeAttestInfoParts, tpmsNvCertifyInfoParts, tpmsNvDigestCertifyInfoParts, tpmuAttestParts, tpmsAttestParts}
+use Rattle.attest.specs.Answers.{tpmsClockInfoAnswer, tpmsTimeInfoAnswer, tpmsCertifyInfoAnswer, tpmsCreationInfoAnswer, tpmsQuoteInfoAnswer, tpmsCommandAuditInfoAnswer, tpmsSessionAuditInfoAnswer, tpmsTimeAttestInfoAnswer, tpmsNvCertifyInfoAnswer, tpmsNvDigestCertifyInfoAnswer, tpmuAttestAnswer, tpmsAttestAnswer}
 
 -- ---- structures
 
-pub clock-info-once : Once clockInfoParts
+pub clock-info-once : Once tpmsClockInfoParts
 clock-info-once = fields (λ s. (s .clock, (s .«reset_count», (s .«restart_count», s .safe)))) (λ (a, (b, (c, d))). record { clock = a; «reset_count» = b; «restart_count» = c; safe = d }) (λ s. refl) (both number-once (both number-once (both number-once number-once)))
 
-pub time-info-once : Once timeInfoParts
+pub time-info-once : Once tpmsTimeInfoParts
 time-info-once = fields (λ s. (s .time, s .«clock_info»)) (λ (a, b). record { time = a; «clock_info» = b }) (λ s. refl) (both number-once clock-info-once)
 
-pub certify-info-once : Once certifyInfoParts
+pub certify-info-once : Once tpmsCertifyInfoParts
 certify-info-once = fields (λ s. (s .name, s .«qualified_name»)) (λ (a, b). record { name = a; «qualified_name» = b }) (λ s. refl) (both span-once span-once)
 
-pub creation-info-once : Once creationInfoParts
+pub creation-info-once : Once tpmsCreationInfoParts
 creation-info-once = fields (λ s. (s .«object_name», s .«creation_hash»)) (λ (a, b). record { «object_name» = a; «creation_hash» = b }) (λ s. refl) (both span-once span-once)
 
-pub quote-info-once : Once quoteInfoParts
+pub quote-info-once : Once tpmsQuoteInfoParts
 quote-info-once = fields (λ s. (s .«pcr_select», s .«pcr_digest»)) (λ (a, b). record { «pcr_select» = a; «pcr_digest» = b }) (λ s. refl) (both pcr-selections-once span-once)
 
-pub command-audit-info-once : Once commandAuditInfoParts
+pub command-audit-info-once : Once tpmsCommandAuditInfoParts
 command-audit-info-once = fields (λ s. (s .«audit_counter», (s .«digest_alg», (s .«audit_digest», s .«command_digest»)))) (λ (a, (b, (c, d))). record { «audit_counter» = a; «digest_alg» = b; «audit_digest» = c; «command_digest» = d }) (λ s. refl) (both number-once (both alg-once (both span-once span-once)))
 
-pub session-audit-info-once : Once sessionAuditInfoParts
+pub session-audit-info-once : Once tpmsSessionAuditInfoParts
 session-audit-info-once = fields (λ s. (s .«exclusive_session», s .«session_digest»)) (λ (a, b). record { «exclusive_session» = a; «session_digest» = b }) (λ s. refl) (both number-once span-once)
 
-pub time-attest-info-once : Once timeAttestInfoParts
+pub time-attest-info-once : Once tpmsTimeAttestInfoParts
 time-attest-info-once = fields (λ s. (s .time, s .«firmware_version»)) (λ (a, b). record { time = a; «firmware_version» = b }) (λ s. refl) (both time-info-once number-once)
 
-pub nv-certify-info-once : Once nvCertifyInfoParts
+pub nv-certify-info-once : Once tpmsNvCertifyInfoParts
 nv-certify-info-once = fields (λ s. (s .«index_name», (s .offset, s .«nv_contents»))) (λ (a, (b, c)). record { «index_name» = a; offset = b; «nv_contents» = c }) (λ s. refl) (both span-once (both number-once span-once))
 
-pub nv-digest-certify-info-once : Once nvDigestCertifyInfoParts
+pub nv-digest-certify-info-once : Once tpmsNvDigestCertifyInfoParts
 nv-digest-certify-info-once = fields (λ s. (s .«index_name», s .«nv_digest»)) (λ (a, b). record { «index_name» = a; «nv_digest» = b }) (λ s. refl) (both span-once span-once)
 
 -- ---- the union
 
-pub attested-once : Once attestedParts
+pub attested-once : Once tpmuAttestParts
 attested-once =
     union
     (holds attestCertify TpmuAttest.Certify certify-info-once
@@ -91,43 +91,43 @@ attested-once =
 
 -- ---- kind 13
 
-pub attest-once : Once attestParts
+pub attest-once : Once tpmsAttestParts
 attest-once = fields (λ s. (s .magic, (s .«attest_type», (s .«qualified_signer», (s .«extra_data», (s .«clock_info», (s .«firmware_version», s .attested))))))) (λ (a, (b, (c, (d, (e, (f, g)))))). record { magic = a; «attest_type» = b; «qualified_signer» = c; «extra_data» = d; «clock_info» = e; «firmware_version» = f; attested = g }) (λ s. refl) (both number-once (both attestation-once (both span-once (both span-once (both clock-info-once (both number-once attested-once))))))
 
 -- ---- answers
 
-pub clock-info-answer-once : Injective clockInfoAnswer
-clock-info-answer-once = answers clock-info-once ClockInfoRead.Found ClockInfoRead.No clockInfoAnswer (λ back. elim [ ClockInfoRead.Found x e ↦ back x e | ClockInfoRead.No f ↦ refl ])
+pub clock-info-answer-once : Injective tpmsClockInfoAnswer
+clock-info-answer-once = answers clock-info-once TpmsClockInfoRead.Found TpmsClockInfoRead.No tpmsClockInfoAnswer (λ back. elim [ TpmsClockInfoRead.Found x e ↦ back x e | TpmsClockInfoRead.No f ↦ refl ])
 
-pub time-info-answer-once : Injective timeInfoAnswer
-time-info-answer-once = answers time-info-once TimeInfoRead.Found TimeInfoRead.No timeInfoAnswer (λ back. elim [ TimeInfoRead.Found x e ↦ back x e | TimeInfoRead.No f ↦ refl ])
+pub time-info-answer-once : Injective tpmsTimeInfoAnswer
+time-info-answer-once = answers time-info-once TpmsTimeInfoRead.Found TpmsTimeInfoRead.No tpmsTimeInfoAnswer (λ back. elim [ TpmsTimeInfoRead.Found x e ↦ back x e | TpmsTimeInfoRead.No f ↦ refl ])
 
-pub certify-info-answer-once : Injective certifyInfoAnswer
-certify-info-answer-once = answers certify-info-once CertifyInfoRead.Found CertifyInfoRead.No certifyInfoAnswer (λ back. elim [ CertifyInfoRead.Found x e ↦ back x e | CertifyInfoRead.No f ↦ refl ])
+pub certify-info-answer-once : Injective tpmsCertifyInfoAnswer
+certify-info-answer-once = answers certify-info-once TpmsCertifyInfoRead.Found TpmsCertifyInfoRead.No tpmsCertifyInfoAnswer (λ back. elim [ TpmsCertifyInfoRead.Found x e ↦ back x e | TpmsCertifyInfoRead.No f ↦ refl ])
 
-pub creation-info-answer-once : Injective creationInfoAnswer
-creation-info-answer-once = answers creation-info-once CreationInfoRead.Found CreationInfoRead.No creationInfoAnswer (λ back. elim [ CreationInfoRead.Found x e ↦ back x e | CreationInfoRead.No f ↦ refl ])
+pub creation-info-answer-once : Injective tpmsCreationInfoAnswer
+creation-info-answer-once = answers creation-info-once TpmsCreationInfoRead.Found TpmsCreationInfoRead.No tpmsCreationInfoAnswer (λ back. elim [ TpmsCreationInfoRead.Found x e ↦ back x e | TpmsCreationInfoRead.No f ↦ refl ])
 
-pub quote-info-answer-once : Injective quoteInfoAnswer
-quote-info-answer-once = answers quote-info-once QuoteInfoRead.Found QuoteInfoRead.No quoteInfoAnswer (λ back. elim [ QuoteInfoRead.Found x e ↦ back x e | QuoteInfoRead.No f ↦ refl ])
+pub quote-info-answer-once : Injective tpmsQuoteInfoAnswer
+quote-info-answer-once = answers quote-info-once TpmsQuoteInfoRead.Found TpmsQuoteInfoRead.No tpmsQuoteInfoAnswer (λ back. elim [ TpmsQuoteInfoRead.Found x e ↦ back x e | TpmsQuoteInfoRead.No f ↦ refl ])
 
-pub command-audit-info-answer-once : Injective commandAuditInfoAnswer
-command-audit-info-answer-once = answers command-audit-info-once CommandAuditInfoRead.Found CommandAuditInfoRead.No commandAuditInfoAnswer (λ back. elim [ CommandAuditInfoRead.Found x e ↦ back x e | CommandAuditInfoRead.No f ↦ refl ])
+pub command-audit-info-answer-once : Injective tpmsCommandAuditInfoAnswer
+command-audit-info-answer-once = answers command-audit-info-once TpmsCommandAuditInfoRead.Found TpmsCommandAuditInfoRead.No tpmsCommandAuditInfoAnswer (λ back. elim [ TpmsCommandAuditInfoRead.Found x e ↦ back x e | TpmsCommandAuditInfoRead.No f ↦ refl ])
 
-pub session-audit-info-answer-once : Injective sessionAuditInfoAnswer
-session-audit-info-answer-once = answers session-audit-info-once SessionAuditInfoRead.Found SessionAuditInfoRead.No sessionAuditInfoAnswer (λ back. elim [ SessionAuditInfoRead.Found x e ↦ back x e | SessionAuditInfoRead.No f ↦ refl ])
+pub session-audit-info-answer-once : Injective tpmsSessionAuditInfoAnswer
+session-audit-info-answer-once = answers session-audit-info-once TpmsSessionAuditInfoRead.Found TpmsSessionAuditInfoRead.No tpmsSessionAuditInfoAnswer (λ back. elim [ TpmsSessionAuditInfoRead.Found x e ↦ back x e | TpmsSessionAuditInfoRead.No f ↦ refl ])
 
-pub time-attest-info-answer-once : Injective timeAttestInfoAnswer
-time-attest-info-answer-once = answers time-attest-info-once TimeAttestInfoRead.Found TimeAttestInfoRead.No timeAttestInfoAnswer (λ back. elim [ TimeAttestInfoRead.Found x e ↦ back x e | TimeAttestInfoRead.No f ↦ refl ])
+pub time-attest-info-answer-once : Injective tpmsTimeAttestInfoAnswer
+time-attest-info-answer-once = answers time-attest-info-once TpmsTimeAttestInfoRead.Found TpmsTimeAttestInfoRead.No tpmsTimeAttestInfoAnswer (λ back. elim [ TpmsTimeAttestInfoRead.Found x e ↦ back x e | TpmsTimeAttestInfoRead.No f ↦ refl ])
 
-pub nv-certify-info-answer-once : Injective nvCertifyInfoAnswer
-nv-certify-info-answer-once = answers nv-certify-info-once NvCertifyInfoRead.Found NvCertifyInfoRead.No nvCertifyInfoAnswer (λ back. elim [ NvCertifyInfoRead.Found x e ↦ back x e | NvCertifyInfoRead.No f ↦ refl ])
+pub nv-certify-info-answer-once : Injective tpmsNvCertifyInfoAnswer
+nv-certify-info-answer-once = answers nv-certify-info-once TpmsNvCertifyInfoRead.Found TpmsNvCertifyInfoRead.No tpmsNvCertifyInfoAnswer (λ back. elim [ TpmsNvCertifyInfoRead.Found x e ↦ back x e | TpmsNvCertifyInfoRead.No f ↦ refl ])
 
-pub nv-digest-certify-info-answer-once : Injective nvDigestCertifyInfoAnswer
-nv-digest-certify-info-answer-once = answers nv-digest-certify-info-once NvDigestCertifyInfoRead.Found NvDigestCertifyInfoRead.No nvDigestCertifyInfoAnswer (λ back. elim [ NvDigestCertifyInfoRead.Found x e ↦ back x e | NvDigestCertifyInfoRead.No f ↦ refl ])
+pub nv-digest-certify-info-answer-once : Injective tpmsNvDigestCertifyInfoAnswer
+nv-digest-certify-info-answer-once = answers nv-digest-certify-info-once TpmsNvDigestCertifyInfoRead.Found TpmsNvDigestCertifyInfoRead.No tpmsNvDigestCertifyInfoAnswer (λ back. elim [ TpmsNvDigestCertifyInfoRead.Found x e ↦ back x e | TpmsNvDigestCertifyInfoRead.No f ↦ refl ])
 
-pub attested-answer-once : Injective attestedAnswer
-attested-answer-once = answers attested-once AttestArmRead.Found AttestArmRead.No attestedAnswer (λ back. elim [ AttestArmRead.Found x e ↦ back x e | AttestArmRead.No f ↦ refl ])
+pub attested-answer-once : Injective tpmuAttestAnswer
+attested-answer-once = answers attested-once TpmuAttestRead.Found TpmuAttestRead.No tpmuAttestAnswer (λ back. elim [ TpmuAttestRead.Found x e ↦ back x e | TpmuAttestRead.No f ↦ refl ])
 
-pub attest-answer-once : Injective attestAnswer
-attest-answer-once = answers attest-once AttestRead.Found AttestRead.No attestAnswer (λ back. elim [ AttestRead.Found x e ↦ back x e | AttestRead.No f ↦ refl ])
+pub attest-answer-once : Injective tpmsAttestAnswer
+attest-answer-once = answers attest-once TpmsAttestRead.Found TpmsAttestRead.No tpmsAttestAnswer (λ back. elim [ TpmsAttestRead.Found x e ↦ back x e | TpmsAttestRead.No f ↦ refl ])

@@ -3,7 +3,7 @@ use mathlib.Core.List.{List, [], _∷_, _++_}
 use Rattle.wire.specs.Answers.{spanPart}
 use Rattle.wire.specs.Reading.{Part, num, tag}
 use Rattle.kinds.specs.Codes.{attestNv, attestCommandAudit, attestSessionAudit, attestCertify, attestQuote, attestTime, attestCreation, attestNvDigest}
-use Rattle.schemes.specs.Parts.{pcrSelectionsParts}
+use Rattle.schemes.specs.Parts.{tpmlPcrSelectionParts}
 use Rattle.attest.specs.declared.tpms.TpmsClockInfo.{TpmsClockInfo}
 use Rattle.attest.specs.declared.tpms.TpmsTimeInfo.{TpmsTimeInfo}
 use Rattle.attest.specs.declared.tpms.TpmsCertifyInfo.{TpmsCertifyInfo}
@@ -19,51 +19,51 @@ use Rattle.attest.specs.declared.attestation.TpmsAttest.{TpmsAttest}
 
 -- ---- structures
 
-abbrev pub clockInfoParts : TpmsClockInfo → List Part
-clockInfoParts c = num (c .clock) ∷ num (c .«reset_count») ∷ num (c .«restart_count») ∷ num (c .safe) ∷ []
+abbrev pub tpmsClockInfoParts : TpmsClockInfo → List Part
+tpmsClockInfoParts c = num (c .clock) ∷ num (c .«reset_count») ∷ num (c .«restart_count») ∷ num (c .safe) ∷ []
 
-abbrev pub timeInfoParts : TpmsTimeInfo → List Part
-timeInfoParts t = num (t .time) ∷ clockInfoParts (t .«clock_info»)
+abbrev pub tpmsTimeInfoParts : TpmsTimeInfo → List Part
+tpmsTimeInfoParts t = num (t .time) ∷ tpmsClockInfoParts (t .«clock_info»)
 
-abbrev pub certifyInfoParts : TpmsCertifyInfo → List Part
-certifyInfoParts i = spanPart (i .name) ∷ spanPart (i .«qualified_name») ∷ []
+abbrev pub tpmsCertifyInfoParts : TpmsCertifyInfo → List Part
+tpmsCertifyInfoParts i = spanPart (i .name) ∷ spanPart (i .«qualified_name») ∷ []
 
-abbrev pub creationInfoParts : TpmsCreationInfo → List Part
-creationInfoParts i = spanPart (i .«object_name») ∷ spanPart (i .«creation_hash») ∷ []
+abbrev pub tpmsCreationInfoParts : TpmsCreationInfo → List Part
+tpmsCreationInfoParts i = spanPart (i .«object_name») ∷ spanPart (i .«creation_hash») ∷ []
 
-abbrev pub quoteInfoParts : TpmsQuoteInfo → List Part
-quoteInfoParts i = pcrSelectionsParts (i .«pcr_select») ++ (spanPart (i .«pcr_digest») ∷ [])
+abbrev pub tpmsQuoteInfoParts : TpmsQuoteInfo → List Part
+tpmsQuoteInfoParts i = tpmlPcrSelectionParts (i .«pcr_select») ++ (spanPart (i .«pcr_digest») ∷ [])
 
-abbrev pub commandAuditInfoParts : TpmsCommandAuditInfo → List Part
-commandAuditInfoParts i = num (i .«audit_counter») ∷ num (i .«digest_alg» .0) ∷ spanPart (i .«audit_digest») ∷ spanPart (i .«command_digest») ∷ []
+abbrev pub tpmsCommandAuditInfoParts : TpmsCommandAuditInfo → List Part
+tpmsCommandAuditInfoParts i = num (i .«audit_counter») ∷ num (i .«digest_alg» .0) ∷ spanPart (i .«audit_digest») ∷ spanPart (i .«command_digest») ∷ []
 
-abbrev pub sessionAuditInfoParts : TpmsSessionAuditInfo → List Part
-sessionAuditInfoParts i = num (i .«exclusive_session») ∷ spanPart (i .«session_digest») ∷ []
+abbrev pub tpmsSessionAuditInfoParts : TpmsSessionAuditInfo → List Part
+tpmsSessionAuditInfoParts i = num (i .«exclusive_session») ∷ spanPart (i .«session_digest») ∷ []
 
-abbrev pub timeAttestInfoParts : TpmsTimeAttestInfo → List Part
-timeAttestInfoParts i = timeInfoParts (i .time) ++ (num (i .«firmware_version») ∷ [])
+abbrev pub tpmsTimeAttestInfoParts : TpmsTimeAttestInfo → List Part
+tpmsTimeAttestInfoParts i = tpmsTimeInfoParts (i .time) ++ (num (i .«firmware_version») ∷ [])
 
-abbrev pub nvCertifyInfoParts : TpmsNvCertifyInfo → List Part
-nvCertifyInfoParts i = spanPart (i .«index_name») ∷ num (i .offset) ∷ spanPart (i .«nv_contents») ∷ []
+abbrev pub tpmsNvCertifyInfoParts : TpmsNvCertifyInfo → List Part
+tpmsNvCertifyInfoParts i = spanPart (i .«index_name») ∷ num (i .offset) ∷ spanPart (i .«nv_contents») ∷ []
 
-abbrev pub nvDigestCertifyInfoParts : TpmsNvDigestCertifyInfo → List Part
-nvDigestCertifyInfoParts i = spanPart (i .«index_name») ∷ spanPart (i .«nv_digest») ∷ []
+abbrev pub tpmsNvDigestCertifyInfoParts : TpmsNvDigestCertifyInfo → List Part
+tpmsNvDigestCertifyInfoParts i = spanPart (i .«index_name») ∷ spanPart (i .«nv_digest») ∷ []
 
 -- ---- the union
 
-abbrev pub attestedParts : TpmuAttest → List Part
-attestedParts (TpmuAttest.Certify i) = tag attestCertify ∷ certifyInfoParts i
-attestedParts (TpmuAttest.Creation i) = tag attestCreation ∷ creationInfoParts i
-attestedParts (TpmuAttest.Quote i) = tag attestQuote ∷ quoteInfoParts i
-attestedParts (TpmuAttest.CommandAudit i) = tag attestCommandAudit ∷ commandAuditInfoParts i
-attestedParts (TpmuAttest.SessionAudit i) = tag attestSessionAudit ∷ sessionAuditInfoParts i
-attestedParts (TpmuAttest.Time i) = tag attestTime ∷ timeAttestInfoParts i
-attestedParts (TpmuAttest.Nv i) = tag attestNv ∷ nvCertifyInfoParts i
-attestedParts (TpmuAttest.NvDigest i) = tag attestNvDigest ∷ nvDigestCertifyInfoParts i
+abbrev pub tpmuAttestParts : TpmuAttest → List Part
+tpmuAttestParts (TpmuAttest.Certify i) = tag attestCertify ∷ tpmsCertifyInfoParts i
+tpmuAttestParts (TpmuAttest.Creation i) = tag attestCreation ∷ tpmsCreationInfoParts i
+tpmuAttestParts (TpmuAttest.Quote i) = tag attestQuote ∷ tpmsQuoteInfoParts i
+tpmuAttestParts (TpmuAttest.CommandAudit i) = tag attestCommandAudit ∷ tpmsCommandAuditInfoParts i
+tpmuAttestParts (TpmuAttest.SessionAudit i) = tag attestSessionAudit ∷ tpmsSessionAuditInfoParts i
+tpmuAttestParts (TpmuAttest.Time i) = tag attestTime ∷ tpmsTimeAttestInfoParts i
+tpmuAttestParts (TpmuAttest.Nv i) = tag attestNv ∷ tpmsNvCertifyInfoParts i
+tpmuAttestParts (TpmuAttest.NvDigest i) = tag attestNvDigest ∷ tpmsNvDigestCertifyInfoParts i
 
 -- ---- kind 13
 
-abbrev pub attestParts : TpmsAttest → List Part
-attestParts a =
+abbrev pub tpmsAttestParts : TpmsAttest → List Part
+tpmsAttestParts a =
     num (a .magic) ∷ num (a .«attest_type» .0) ∷ spanPart (a .«qualified_signer») ∷ spanPart (a .«extra_data»)
-    ∷ (clockInfoParts (a .«clock_info») ++ (num (a .«firmware_version») ∷ attestedParts (a .attested)))
+    ∷ (tpmsClockInfoParts (a .«clock_info») ++ (num (a .«firmware_version») ∷ tpmuAttestParts (a .attested)))

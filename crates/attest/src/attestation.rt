@@ -1,10 +1,10 @@
 // Kind 13, the attestation: TPMS_ATTEST over TPMU_ATTEST.
-use crate::tpms::ClockInfoRead;
 use crate::tpms::TpmsClockInfo;
-use crate::tpmu::AttestArmRead;
+use crate::tpms::TpmsClockInfoRead;
 use crate::tpmu::TpmuAttest;
-use kinds::codes::StRead;
+use crate::tpmu::TpmuAttestRead;
 use kinds::codes::TpmSt;
+use kinds::codes::TpmStRead;
 use kinds::limits;
 use kinds::uint::Uint32Read;
 use kinds::uint::magic_number;
@@ -20,8 +20,8 @@ ghost use mathlib.Core.List.{_∷_};
 ghost use Rattle.wire.specs.Answers.{spanPart};
 ghost use Rattle.wire.specs.Layout.{number, free, _then_};
 ghost use Rattle.wire.specs.Reading.{num, fronted, read};
-ghost use Rattle.kinds.specs.Kinds.{attest, attestBy, clockInfo};
-ghost use Rattle.attest.specs.Answers.{attestAnswer};
+ghost use Rattle.kinds.specs.Kinds.{tpmsAttest, tpmuAttest, tpmsClockInfo};
+ghost use Rattle.attest.specs.Answers.{tpmsAttestAnswer};
 
 pub struct TpmsAttest {
     pub magic: u32,
@@ -33,15 +33,15 @@ pub struct TpmsAttest {
     pub attested: TpmuAttest,
 }
 
-pub enum AttestRead {
+pub enum TpmsAttestRead {
     Found(TpmsAttest, usize),
     No(Refusal),
 }
 
 impl TpmsAttest {
     // Kind 13, TPMS_ATTEST, read.
-    pub fn unmarshal(s: &[u8], at: usize) -> AttestRead
-        ensures { λ r. ⌜ attestAnswer r ≡ read attest (now (s .entry)) at ⌝ }
+    pub fn unmarshal(s: &[u8], at: usize) -> TpmsAttestRead
+        ensures { λ r. ⌜ tpmsAttestAnswer r ≡ read tpmsAttest (now (s .entry)) at ⌝ }
     {
         let mut end = at;
         let magic = match magic_number(s, end) {
@@ -49,28 +49,28 @@ impl TpmsAttest {
                 end = e;
                 v
             }
-            Uint32Read::No(f) => return AttestRead::No(f),
+            Uint32Read::No(f) => return TpmsAttestRead::No(f),
         };
         let attest_type = match TpmSt::unmarshal(s, end) {
-            StRead::Found(v, e) => {
+            TpmStRead::Found(v, e) => {
                 end = e;
                 v
             }
-            StRead::No(f) => return AttestRead::No(f),
+            TpmStRead::No(f) => return TpmsAttestRead::No(f),
         };
         let signer = match buffer(s, end, Width::Two, limits::MAX_NAME_SIZE) {
             SpanRead::Found(v, e) => {
                 end = e;
                 v
             }
-            SpanRead::No(f) => return AttestRead::No(f),
+            SpanRead::No(f) => return TpmsAttestRead::No(f),
         };
         let extra = match buffer(s, end, Width::Two, limits::MAX_DATA_SIZE) {
             SpanRead::Found(v, e) => {
                 end = e;
                 v
             }
-            SpanRead::No(f) => return AttestRead::No(f),
+            SpanRead::No(f) => return TpmsAttestRead::No(f),
         };
         TpmsAttest::attested(magic, attest_type, signer, extra, s, end)
     }
@@ -83,32 +83,32 @@ impl TpmsAttest {
         extra: Span,
         s: &[u8],
         at: usize,
-    ) -> AttestRead
-        ensures { λ r. ⌜ attestAnswer r ≡ fronted (λ qs. num magic ∷ num (kind .0) ∷ spanPart signer ∷ spanPart extra ∷ qs) (read (clockInfo then number 8 free (λ firmware. attestBy (kind .0))) (now (s .entry)) at) ⌝ }
+    ) -> TpmsAttestRead
+        ensures { λ r. ⌜ tpmsAttestAnswer r ≡ fronted (λ qs. num magic ∷ num (kind .0) ∷ spanPart signer ∷ spanPart extra ∷ qs) (read (tpmsClockInfo then number 8 free (λ firmware. tpmuAttest (kind .0))) (now (s .entry)) at) ⌝ }
     {
         let mut end = at;
         let clock_info = match TpmsClockInfo::unmarshal(s, end) {
-            ClockInfoRead::Found(v, e) => {
+            TpmsClockInfoRead::Found(v, e) => {
                 end = e;
                 v
             }
-            ClockInfoRead::No(f) => return AttestRead::No(f),
+            TpmsClockInfoRead::No(f) => return TpmsAttestRead::No(f),
         };
         let firmware_version = match number(s, end, Width::Eight) {
             NumberRead::Found(v, e) => {
                 end = e;
                 v
             }
-            NumberRead::No(f) => return AttestRead::No(f),
+            NumberRead::No(f) => return TpmsAttestRead::No(f),
         };
         let attested = match TpmuAttest::unmarshal_tagged(kind, s, end) {
-            AttestArmRead::Found(v, e) => {
+            TpmuAttestRead::Found(v, e) => {
                 end = e;
                 v
             }
-            AttestArmRead::No(f) => return AttestRead::No(f),
+            TpmuAttestRead::No(f) => return TpmsAttestRead::No(f),
         };
-        AttestRead::Found(
+        TpmsAttestRead::Found(
             TpmsAttest {
                 magic: magic,
                 attest_type: kind,

@@ -1,6 +1,6 @@
 // The structures that an attestation holds.
-use kinds::codes::AlgRead;
 use kinds::codes::TpmAlgId;
+use kinds::codes::TpmAlgIdRead;
 use kinds::limits;
 use kinds::uint::Uint8Read;
 use kinds::uint::Uint16Read;
@@ -8,8 +8,8 @@ use kinds::uint::Uint32Read;
 use kinds::uint::uint16;
 use kinds::uint::uint32;
 use kinds::uint::yes_no;
-use schemes::list::PcrSelectionsRead;
 use schemes::list::TpmlPcrSelection;
+use schemes::list::TpmlPcrSelectionRead;
 use wire::fault::Refusal;
 use wire::read::NumberRead;
 use wire::read::SpanRead;
@@ -19,8 +19,8 @@ use wire::span::Span;
 use wire::width::Width;
 ghost use mathlib.Core.Path.{_≡_};
 ghost use Rattle.wire.specs.Reading.{read};
-ghost use Rattle.kinds.specs.Kinds.{clockInfo, timeInfo, certifyInfo, creationInfo, quoteInfo, commandAuditInfo, sessionAuditInfo, timeAttestInfo, nvCertifyInfo, nvDigestCertifyInfo};
-ghost use Rattle.attest.specs.Answers.{clockInfoAnswer, timeInfoAnswer, certifyInfoAnswer, creationInfoAnswer, quoteInfoAnswer, commandAuditInfoAnswer, sessionAuditInfoAnswer, timeAttestInfoAnswer, nvCertifyInfoAnswer, nvDigestCertifyInfoAnswer};
+ghost use Rattle.kinds.specs.Kinds.{tpmsClockInfo, tpmsTimeInfo, tpmsCertifyInfo, tpmsCreationInfo, tpmsQuoteInfo, tpmsCommandAuditInfo, tpmsSessionAuditInfo, tpmsTimeAttestInfo, tpmsNvCertifyInfo, tpmsNvDigestCertifyInfo};
+ghost use Rattle.attest.specs.Answers.{tpmsClockInfoAnswer, tpmsTimeInfoAnswer, tpmsCertifyInfoAnswer, tpmsCreationInfoAnswer, tpmsQuoteInfoAnswer, tpmsCommandAuditInfoAnswer, tpmsSessionAuditInfoAnswer, tpmsTimeAttestInfoAnswer, tpmsNvCertifyInfoAnswer, tpmsNvDigestCertifyInfoAnswer};
 
 pub struct TpmsClockInfo {
     pub clock: u64,
@@ -77,60 +77,60 @@ pub struct TpmsNvDigestCertifyInfo {
     pub nv_digest: Span,
 }
 
-pub enum ClockInfoRead {
+pub enum TpmsClockInfoRead {
     Found(TpmsClockInfo, usize),
     No(Refusal),
 }
 
-pub enum TimeInfoRead {
+pub enum TpmsTimeInfoRead {
     Found(TpmsTimeInfo, usize),
     No(Refusal),
 }
 
-pub enum CertifyInfoRead {
+pub enum TpmsCertifyInfoRead {
     Found(TpmsCertifyInfo, usize),
     No(Refusal),
 }
 
-pub enum CreationInfoRead {
+pub enum TpmsCreationInfoRead {
     Found(TpmsCreationInfo, usize),
     No(Refusal),
 }
 
-pub enum QuoteInfoRead {
+pub enum TpmsQuoteInfoRead {
     Found(TpmsQuoteInfo, usize),
     No(Refusal),
 }
 
-pub enum CommandAuditInfoRead {
+pub enum TpmsCommandAuditInfoRead {
     Found(TpmsCommandAuditInfo, usize),
     No(Refusal),
 }
 
-pub enum SessionAuditInfoRead {
+pub enum TpmsSessionAuditInfoRead {
     Found(TpmsSessionAuditInfo, usize),
     No(Refusal),
 }
 
-pub enum TimeAttestInfoRead {
+pub enum TpmsTimeAttestInfoRead {
     Found(TpmsTimeAttestInfo, usize),
     No(Refusal),
 }
 
-pub enum NvCertifyInfoRead {
+pub enum TpmsNvCertifyInfoRead {
     Found(TpmsNvCertifyInfo, usize),
     No(Refusal),
 }
 
-pub enum NvDigestCertifyInfoRead {
+pub enum TpmsNvDigestCertifyInfoRead {
     Found(TpmsNvDigestCertifyInfo, usize),
     No(Refusal),
 }
 
 impl TpmsClockInfo {
     // TPMS_CLOCK_INFO, read.
-    pub fn unmarshal(s: &[u8], at: usize) -> ClockInfoRead
-        ensures { λ r. ⌜ clockInfoAnswer r ≡ read clockInfo (now (s .entry)) at ⌝ }
+    pub fn unmarshal(s: &[u8], at: usize) -> TpmsClockInfoRead
+        ensures { λ r. ⌜ tpmsClockInfoAnswer r ≡ read tpmsClockInfo (now (s .entry)) at ⌝ }
     {
         let mut end = at;
         let clock = match number(s, end, Width::Eight) {
@@ -138,30 +138,30 @@ impl TpmsClockInfo {
                 end = e;
                 v
             }
-            NumberRead::No(f) => return ClockInfoRead::No(f),
+            NumberRead::No(f) => return TpmsClockInfoRead::No(f),
         };
         let reset_count = match uint32(s, end) {
             Uint32Read::Found(v, e) => {
                 end = e;
                 v
             }
-            Uint32Read::No(f) => return ClockInfoRead::No(f),
+            Uint32Read::No(f) => return TpmsClockInfoRead::No(f),
         };
         let restart_count = match uint32(s, end) {
             Uint32Read::Found(v, e) => {
                 end = e;
                 v
             }
-            Uint32Read::No(f) => return ClockInfoRead::No(f),
+            Uint32Read::No(f) => return TpmsClockInfoRead::No(f),
         };
         let safe = match yes_no(s, end) {
             Uint8Read::Found(v, e) => {
                 end = e;
                 v
             }
-            Uint8Read::No(f) => return ClockInfoRead::No(f),
+            Uint8Read::No(f) => return TpmsClockInfoRead::No(f),
         };
-        ClockInfoRead::Found(
+        TpmsClockInfoRead::Found(
             TpmsClockInfo {
                 clock: clock,
                 reset_count: reset_count,
@@ -175,8 +175,8 @@ impl TpmsClockInfo {
 
 impl TpmsTimeInfo {
     // TPMS_TIME_INFO, read.
-    pub fn unmarshal(s: &[u8], at: usize) -> TimeInfoRead
-        ensures { λ r. ⌜ timeInfoAnswer r ≡ read timeInfo (now (s .entry)) at ⌝ }
+    pub fn unmarshal(s: &[u8], at: usize) -> TpmsTimeInfoRead
+        ensures { λ r. ⌜ tpmsTimeInfoAnswer r ≡ read tpmsTimeInfo (now (s .entry)) at ⌝ }
     {
         let mut end = at;
         let time = match number(s, end, Width::Eight) {
@@ -184,16 +184,16 @@ impl TpmsTimeInfo {
                 end = e;
                 v
             }
-            NumberRead::No(f) => return TimeInfoRead::No(f),
+            NumberRead::No(f) => return TpmsTimeInfoRead::No(f),
         };
         let clock_info = match TpmsClockInfo::unmarshal(s, end) {
-            ClockInfoRead::Found(v, e) => {
+            TpmsClockInfoRead::Found(v, e) => {
                 end = e;
                 v
             }
-            ClockInfoRead::No(f) => return TimeInfoRead::No(f),
+            TpmsClockInfoRead::No(f) => return TpmsTimeInfoRead::No(f),
         };
-        TimeInfoRead::Found(
+        TpmsTimeInfoRead::Found(
             TpmsTimeInfo {
                 time: time,
                 clock_info: clock_info,
@@ -205,8 +205,8 @@ impl TpmsTimeInfo {
 
 impl TpmsCertifyInfo {
     // TPMS_CERTIFY_INFO, read.
-    pub fn unmarshal(s: &[u8], at: usize) -> CertifyInfoRead
-        ensures { λ r. ⌜ certifyInfoAnswer r ≡ read certifyInfo (now (s .entry)) at ⌝ }
+    pub fn unmarshal(s: &[u8], at: usize) -> TpmsCertifyInfoRead
+        ensures { λ r. ⌜ tpmsCertifyInfoAnswer r ≡ read tpmsCertifyInfo (now (s .entry)) at ⌝ }
     {
         let mut end = at;
         let name = match buffer(s, end, Width::Two, limits::MAX_NAME_SIZE) {
@@ -214,16 +214,16 @@ impl TpmsCertifyInfo {
                 end = e;
                 v
             }
-            SpanRead::No(f) => return CertifyInfoRead::No(f),
+            SpanRead::No(f) => return TpmsCertifyInfoRead::No(f),
         };
         let qualified_name = match buffer(s, end, Width::Two, limits::MAX_NAME_SIZE) {
             SpanRead::Found(v, e) => {
                 end = e;
                 v
             }
-            SpanRead::No(f) => return CertifyInfoRead::No(f),
+            SpanRead::No(f) => return TpmsCertifyInfoRead::No(f),
         };
-        CertifyInfoRead::Found(
+        TpmsCertifyInfoRead::Found(
             TpmsCertifyInfo {
                 name: name,
                 qualified_name: qualified_name,
@@ -235,8 +235,8 @@ impl TpmsCertifyInfo {
 
 impl TpmsCreationInfo {
     // TPMS_CREATION_INFO, read.
-    pub fn unmarshal(s: &[u8], at: usize) -> CreationInfoRead
-        ensures { λ r. ⌜ creationInfoAnswer r ≡ read creationInfo (now (s .entry)) at ⌝ }
+    pub fn unmarshal(s: &[u8], at: usize) -> TpmsCreationInfoRead
+        ensures { λ r. ⌜ tpmsCreationInfoAnswer r ≡ read tpmsCreationInfo (now (s .entry)) at ⌝ }
     {
         let mut end = at;
         let object_name = match buffer(s, end, Width::Two, limits::MAX_NAME_SIZE) {
@@ -244,16 +244,16 @@ impl TpmsCreationInfo {
                 end = e;
                 v
             }
-            SpanRead::No(f) => return CreationInfoRead::No(f),
+            SpanRead::No(f) => return TpmsCreationInfoRead::No(f),
         };
         let creation_hash = match buffer(s, end, Width::Two, limits::MAX_DIGEST_SIZE) {
             SpanRead::Found(v, e) => {
                 end = e;
                 v
             }
-            SpanRead::No(f) => return CreationInfoRead::No(f),
+            SpanRead::No(f) => return TpmsCreationInfoRead::No(f),
         };
-        CreationInfoRead::Found(
+        TpmsCreationInfoRead::Found(
             TpmsCreationInfo {
                 object_name: object_name,
                 creation_hash: creation_hash,
@@ -265,25 +265,25 @@ impl TpmsCreationInfo {
 
 impl TpmsQuoteInfo {
     // TPMS_QUOTE_INFO, read.
-    pub fn unmarshal(s: &[u8], at: usize) -> QuoteInfoRead
-        ensures { λ r. ⌜ quoteInfoAnswer r ≡ read quoteInfo (now (s .entry)) at ⌝ }
+    pub fn unmarshal(s: &[u8], at: usize) -> TpmsQuoteInfoRead
+        ensures { λ r. ⌜ tpmsQuoteInfoAnswer r ≡ read tpmsQuoteInfo (now (s .entry)) at ⌝ }
     {
         let mut end = at;
         let pcr_select = match TpmlPcrSelection::unmarshal(s, end) {
-            PcrSelectionsRead::Found(v, e) => {
+            TpmlPcrSelectionRead::Found(v, e) => {
                 end = e;
                 v
             }
-            PcrSelectionsRead::No(f) => return QuoteInfoRead::No(f),
+            TpmlPcrSelectionRead::No(f) => return TpmsQuoteInfoRead::No(f),
         };
         let pcr_digest = match buffer(s, end, Width::Two, limits::MAX_DIGEST_SIZE) {
             SpanRead::Found(v, e) => {
                 end = e;
                 v
             }
-            SpanRead::No(f) => return QuoteInfoRead::No(f),
+            SpanRead::No(f) => return TpmsQuoteInfoRead::No(f),
         };
-        QuoteInfoRead::Found(
+        TpmsQuoteInfoRead::Found(
             TpmsQuoteInfo {
                 pcr_select: pcr_select,
                 pcr_digest: pcr_digest,
@@ -295,8 +295,8 @@ impl TpmsQuoteInfo {
 
 impl TpmsCommandAuditInfo {
     // TPMS_COMMAND_AUDIT_INFO, read.
-    pub fn unmarshal(s: &[u8], at: usize) -> CommandAuditInfoRead
-        ensures { λ r. ⌜ commandAuditInfoAnswer r ≡ read commandAuditInfo (now (s .entry)) at ⌝ }
+    pub fn unmarshal(s: &[u8], at: usize) -> TpmsCommandAuditInfoRead
+        ensures { λ r. ⌜ tpmsCommandAuditInfoAnswer r ≡ read tpmsCommandAuditInfo (now (s .entry)) at ⌝ }
     {
         let mut end = at;
         let audit_counter = match number(s, end, Width::Eight) {
@@ -304,30 +304,30 @@ impl TpmsCommandAuditInfo {
                 end = e;
                 v
             }
-            NumberRead::No(f) => return CommandAuditInfoRead::No(f),
+            NumberRead::No(f) => return TpmsCommandAuditInfoRead::No(f),
         };
         let digest_alg = match TpmAlgId::unmarshal(s, end) {
-            AlgRead::Found(v, e) => {
+            TpmAlgIdRead::Found(v, e) => {
                 end = e;
                 v
             }
-            AlgRead::No(f) => return CommandAuditInfoRead::No(f),
+            TpmAlgIdRead::No(f) => return TpmsCommandAuditInfoRead::No(f),
         };
         let audit_digest = match buffer(s, end, Width::Two, limits::MAX_DIGEST_SIZE) {
             SpanRead::Found(v, e) => {
                 end = e;
                 v
             }
-            SpanRead::No(f) => return CommandAuditInfoRead::No(f),
+            SpanRead::No(f) => return TpmsCommandAuditInfoRead::No(f),
         };
         let command_digest = match buffer(s, end, Width::Two, limits::MAX_DIGEST_SIZE) {
             SpanRead::Found(v, e) => {
                 end = e;
                 v
             }
-            SpanRead::No(f) => return CommandAuditInfoRead::No(f),
+            SpanRead::No(f) => return TpmsCommandAuditInfoRead::No(f),
         };
-        CommandAuditInfoRead::Found(
+        TpmsCommandAuditInfoRead::Found(
             TpmsCommandAuditInfo {
                 audit_counter: audit_counter,
                 digest_alg: digest_alg,
@@ -341,8 +341,8 @@ impl TpmsCommandAuditInfo {
 
 impl TpmsSessionAuditInfo {
     // TPMS_SESSION_AUDIT_INFO, read.
-    pub fn unmarshal(s: &[u8], at: usize) -> SessionAuditInfoRead
-        ensures { λ r. ⌜ sessionAuditInfoAnswer r ≡ read sessionAuditInfo (now (s .entry)) at ⌝ }
+    pub fn unmarshal(s: &[u8], at: usize) -> TpmsSessionAuditInfoRead
+        ensures { λ r. ⌜ tpmsSessionAuditInfoAnswer r ≡ read tpmsSessionAuditInfo (now (s .entry)) at ⌝ }
     {
         let mut end = at;
         let exclusive_session = match yes_no(s, end) {
@@ -350,16 +350,16 @@ impl TpmsSessionAuditInfo {
                 end = e;
                 v
             }
-            Uint8Read::No(f) => return SessionAuditInfoRead::No(f),
+            Uint8Read::No(f) => return TpmsSessionAuditInfoRead::No(f),
         };
         let session_digest = match buffer(s, end, Width::Two, limits::MAX_DIGEST_SIZE) {
             SpanRead::Found(v, e) => {
                 end = e;
                 v
             }
-            SpanRead::No(f) => return SessionAuditInfoRead::No(f),
+            SpanRead::No(f) => return TpmsSessionAuditInfoRead::No(f),
         };
-        SessionAuditInfoRead::Found(
+        TpmsSessionAuditInfoRead::Found(
             TpmsSessionAuditInfo {
                 exclusive_session: exclusive_session,
                 session_digest: session_digest,
@@ -371,25 +371,25 @@ impl TpmsSessionAuditInfo {
 
 impl TpmsTimeAttestInfo {
     // TPMS_TIME_ATTEST_INFO, read.
-    pub fn unmarshal(s: &[u8], at: usize) -> TimeAttestInfoRead
-        ensures { λ r. ⌜ timeAttestInfoAnswer r ≡ read timeAttestInfo (now (s .entry)) at ⌝ }
+    pub fn unmarshal(s: &[u8], at: usize) -> TpmsTimeAttestInfoRead
+        ensures { λ r. ⌜ tpmsTimeAttestInfoAnswer r ≡ read tpmsTimeAttestInfo (now (s .entry)) at ⌝ }
     {
         let mut end = at;
         let time = match TpmsTimeInfo::unmarshal(s, end) {
-            TimeInfoRead::Found(v, e) => {
+            TpmsTimeInfoRead::Found(v, e) => {
                 end = e;
                 v
             }
-            TimeInfoRead::No(f) => return TimeAttestInfoRead::No(f),
+            TpmsTimeInfoRead::No(f) => return TpmsTimeAttestInfoRead::No(f),
         };
         let firmware_version = match number(s, end, Width::Eight) {
             NumberRead::Found(v, e) => {
                 end = e;
                 v
             }
-            NumberRead::No(f) => return TimeAttestInfoRead::No(f),
+            NumberRead::No(f) => return TpmsTimeAttestInfoRead::No(f),
         };
-        TimeAttestInfoRead::Found(
+        TpmsTimeAttestInfoRead::Found(
             TpmsTimeAttestInfo {
                 time: time,
                 firmware_version: firmware_version,
@@ -401,8 +401,8 @@ impl TpmsTimeAttestInfo {
 
 impl TpmsNvCertifyInfo {
     // TPMS_NV_CERTIFY_INFO, read.
-    pub fn unmarshal(s: &[u8], at: usize) -> NvCertifyInfoRead
-        ensures { λ r. ⌜ nvCertifyInfoAnswer r ≡ read nvCertifyInfo (now (s .entry)) at ⌝ }
+    pub fn unmarshal(s: &[u8], at: usize) -> TpmsNvCertifyInfoRead
+        ensures { λ r. ⌜ tpmsNvCertifyInfoAnswer r ≡ read tpmsNvCertifyInfo (now (s .entry)) at ⌝ }
     {
         let mut end = at;
         let index_name = match buffer(s, end, Width::Two, limits::MAX_NAME_SIZE) {
@@ -410,23 +410,23 @@ impl TpmsNvCertifyInfo {
                 end = e;
                 v
             }
-            SpanRead::No(f) => return NvCertifyInfoRead::No(f),
+            SpanRead::No(f) => return TpmsNvCertifyInfoRead::No(f),
         };
         let offset = match uint16(s, end) {
             Uint16Read::Found(v, e) => {
                 end = e;
                 v
             }
-            Uint16Read::No(f) => return NvCertifyInfoRead::No(f),
+            Uint16Read::No(f) => return TpmsNvCertifyInfoRead::No(f),
         };
         let nv_contents = match buffer(s, end, Width::Two, limits::MAX_NV_BUFFER_SIZE) {
             SpanRead::Found(v, e) => {
                 end = e;
                 v
             }
-            SpanRead::No(f) => return NvCertifyInfoRead::No(f),
+            SpanRead::No(f) => return TpmsNvCertifyInfoRead::No(f),
         };
-        NvCertifyInfoRead::Found(
+        TpmsNvCertifyInfoRead::Found(
             TpmsNvCertifyInfo {
                 index_name: index_name,
                 offset: offset,
@@ -439,8 +439,8 @@ impl TpmsNvCertifyInfo {
 
 impl TpmsNvDigestCertifyInfo {
     // TPMS_NV_DIGEST_CERTIFY_INFO, read.
-    pub fn unmarshal(s: &[u8], at: usize) -> NvDigestCertifyInfoRead
-        ensures { λ r. ⌜ nvDigestCertifyInfoAnswer r ≡ read nvDigestCertifyInfo (now (s .entry)) at ⌝ }
+    pub fn unmarshal(s: &[u8], at: usize) -> TpmsNvDigestCertifyInfoRead
+        ensures { λ r. ⌜ tpmsNvDigestCertifyInfoAnswer r ≡ read tpmsNvDigestCertifyInfo (now (s .entry)) at ⌝ }
     {
         let mut end = at;
         let index_name = match buffer(s, end, Width::Two, limits::MAX_NAME_SIZE) {
@@ -448,16 +448,16 @@ impl TpmsNvDigestCertifyInfo {
                 end = e;
                 v
             }
-            SpanRead::No(f) => return NvDigestCertifyInfoRead::No(f),
+            SpanRead::No(f) => return TpmsNvDigestCertifyInfoRead::No(f),
         };
         let nv_digest = match buffer(s, end, Width::Two, limits::MAX_DIGEST_SIZE) {
             SpanRead::Found(v, e) => {
                 end = e;
                 v
             }
-            SpanRead::No(f) => return NvDigestCertifyInfoRead::No(f),
+            SpanRead::No(f) => return TpmsNvDigestCertifyInfoRead::No(f),
         };
-        NvDigestCertifyInfoRead::Found(
+        TpmsNvDigestCertifyInfoRead::Found(
             TpmsNvDigestCertifyInfo {
                 index_name: index_name,
                 nv_digest: nv_digest,

@@ -1,20 +1,20 @@
 // The union of attestations: what the TPM attests to, by the attestation's type.
-use crate::tpms::CertifyInfoRead;
-use crate::tpms::CommandAuditInfoRead;
-use crate::tpms::CreationInfoRead;
-use crate::tpms::NvCertifyInfoRead;
-use crate::tpms::NvDigestCertifyInfoRead;
-use crate::tpms::QuoteInfoRead;
-use crate::tpms::SessionAuditInfoRead;
-use crate::tpms::TimeAttestInfoRead;
 use crate::tpms::TpmsCertifyInfo;
+use crate::tpms::TpmsCertifyInfoRead;
 use crate::tpms::TpmsCommandAuditInfo;
+use crate::tpms::TpmsCommandAuditInfoRead;
 use crate::tpms::TpmsCreationInfo;
+use crate::tpms::TpmsCreationInfoRead;
 use crate::tpms::TpmsNvCertifyInfo;
+use crate::tpms::TpmsNvCertifyInfoRead;
 use crate::tpms::TpmsNvDigestCertifyInfo;
+use crate::tpms::TpmsNvDigestCertifyInfoRead;
 use crate::tpms::TpmsQuoteInfo;
+use crate::tpms::TpmsQuoteInfoRead;
 use crate::tpms::TpmsSessionAuditInfo;
+use crate::tpms::TpmsSessionAuditInfoRead;
 use crate::tpms::TpmsTimeAttestInfo;
+use crate::tpms::TpmsTimeAttestInfoRead;
 use kinds::codes::TpmSt;
 use kinds::registry;
 use wire::fault::Refusal;
@@ -22,11 +22,11 @@ use wire::widen::wide;
 ghost use mathlib.Core.Path.{_≡_};
 ghost use Rattle.wire.specs.Reading.{read};
 ghost use Rattle.wire.specs.Unions.{isArm};
-ghost use Rattle.kinds.specs.Tables.{attestArm};
-ghost use Rattle.kinds.specs.Kinds.{attestBy};
+ghost use Rattle.kinds.specs.Tables.{tpmuAttestArm};
+ghost use Rattle.kinds.specs.Kinds.{tpmuAttest};
 ghost use Rattle.schemes.specs.Parts.{held};
-ghost use Rattle.attest.specs.Parts.{attestedParts};
-ghost use Rattle.attest.specs.Answers.{attestedAnswer};
+ghost use Rattle.attest.specs.Parts.{tpmuAttestParts};
+ghost use Rattle.attest.specs.Answers.{tpmuAttestAnswer};
 
 pub enum TpmuAttest {
     Certify(TpmsCertifyInfo),
@@ -39,65 +39,74 @@ pub enum TpmuAttest {
     NvDigest(TpmsNvDigestCertifyInfo),
 }
 
-pub enum AttestArmRead {
+pub enum TpmuAttestRead {
     Found(TpmuAttest, usize),
     No(Refusal),
 }
 
 impl TpmuAttest {
-    pub fn unmarshal_tagged(tag: TpmSt, s: &[u8], at: usize) -> AttestArmRead
-        ensures { λ r. ⌜ attestedAnswer r ≡ read (attestBy (tag .0)) (now (s .entry)) at ⌝ }
+    pub fn unmarshal_tagged(tag: TpmSt, s: &[u8], at: usize) -> TpmuAttestRead
+        ensures { λ r. ⌜ tpmuAttestAnswer r ≡ read (tpmuAttest (tag .0)) (now (s .entry)) at ⌝ }
     {
         let v = tag.0;
         match v {
             registry::ATTEST_CERTIFY => match TpmsCertifyInfo::unmarshal(s, at) {
-                CertifyInfoRead::Found(x, e) => AttestArmRead::Found(TpmuAttest::Certify(x), e),
-                CertifyInfoRead::No(f) => AttestArmRead::No(f),
+                TpmsCertifyInfoRead::Found(x, e) => TpmuAttestRead::Found(
+                    TpmuAttest::Certify(x),
+                    e,
+                ),
+                TpmsCertifyInfoRead::No(f) => TpmuAttestRead::No(f),
             },
             registry::ATTEST_CREATION => match TpmsCreationInfo::unmarshal(s, at) {
-                CreationInfoRead::Found(x, e) => AttestArmRead::Found(TpmuAttest::Creation(x), e),
-                CreationInfoRead::No(f) => AttestArmRead::No(f),
+                TpmsCreationInfoRead::Found(x, e) => TpmuAttestRead::Found(
+                    TpmuAttest::Creation(x),
+                    e,
+                ),
+                TpmsCreationInfoRead::No(f) => TpmuAttestRead::No(f),
             },
             registry::ATTEST_QUOTE => match TpmsQuoteInfo::unmarshal(s, at) {
-                QuoteInfoRead::Found(x, e) => AttestArmRead::Found(TpmuAttest::Quote(x), e),
-                QuoteInfoRead::No(f) => AttestArmRead::No(f),
+                TpmsQuoteInfoRead::Found(x, e) => TpmuAttestRead::Found(TpmuAttest::Quote(x), e),
+                TpmsQuoteInfoRead::No(f) => TpmuAttestRead::No(f),
             },
             registry::ATTEST_COMMAND_AUDIT => match TpmsCommandAuditInfo::unmarshal(s, at) {
-                CommandAuditInfoRead::Found(x, e) => AttestArmRead::Found(
+                TpmsCommandAuditInfoRead::Found(x, e) => TpmuAttestRead::Found(
                     TpmuAttest::CommandAudit(x),
                     e,
                 ),
-                CommandAuditInfoRead::No(f) => AttestArmRead::No(f),
+                TpmsCommandAuditInfoRead::No(f) => TpmuAttestRead::No(f),
             },
             registry::ATTEST_SESSION_AUDIT => match TpmsSessionAuditInfo::unmarshal(s, at) {
-                SessionAuditInfoRead::Found(x, e) => AttestArmRead::Found(
+                TpmsSessionAuditInfoRead::Found(x, e) => TpmuAttestRead::Found(
                     TpmuAttest::SessionAudit(x),
                     e,
                 ),
-                SessionAuditInfoRead::No(f) => AttestArmRead::No(f),
+                TpmsSessionAuditInfoRead::No(f) => TpmuAttestRead::No(f),
             },
             registry::ATTEST_TIME => match TpmsTimeAttestInfo::unmarshal(s, at) {
-                TimeAttestInfoRead::Found(x, e) => AttestArmRead::Found(TpmuAttest::Time(x), e),
-                TimeAttestInfoRead::No(f) => AttestArmRead::No(f),
+                TpmsTimeAttestInfoRead::Found(x, e) => TpmuAttestRead::Found(
+                    TpmuAttest::Time(x),
+                    e,
+                ),
+                TpmsTimeAttestInfoRead::No(f) => TpmuAttestRead::No(f),
             },
             registry::ATTEST_NV => match TpmsNvCertifyInfo::unmarshal(s, at) {
-                NvCertifyInfoRead::Found(x, e) => AttestArmRead::Found(TpmuAttest::Nv(x), e),
-                NvCertifyInfoRead::No(f) => AttestArmRead::No(f),
+                TpmsNvCertifyInfoRead::Found(x, e) => TpmuAttestRead::Found(TpmuAttest::Nv(x), e),
+                TpmsNvCertifyInfoRead::No(f) => TpmuAttestRead::No(f),
             },
             registry::ATTEST_NV_DIGEST => match TpmsNvDigestCertifyInfo::unmarshal(s, at) {
-                NvDigestCertifyInfoRead::Found(x, e) => AttestArmRead::Found(
+                TpmsNvDigestCertifyInfoRead::Found(x, e) => TpmuAttestRead::Found(
                     TpmuAttest::NvDigest(x),
                     e,
                 ),
-                NvDigestCertifyInfoRead::No(f) => AttestArmRead::No(f),
+                TpmsNvDigestCertifyInfoRead::No(f) => TpmuAttestRead::No(f),
             },
-            _ => AttestArmRead::No(Refusal::no_arm(at, wide(v))),
+            _ => TpmuAttestRead::No(Refusal::no_arm(at, wide(v))),
         }
     }
 
     // Whether the payload is the arm that the selector chooses.
     pub fn matches_tag(self, tag: TpmSt) -> bool
-        ensures { λ r. ⌜ r ≡ isArm (attestArm (tag .0)) (held (attestedParts self)) ⌝ }
+        ensures { λ r. ⌜ r ≡ isArm (tpmuAttestArm (tag .0)) (held (tpmuAttestParts self)) ⌝ }
     {
         let chosen = tag.attest_arm();
         match self {

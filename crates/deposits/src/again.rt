@@ -1,32 +1,32 @@
 // A record of each kind, read and written again, as a user of the library would.
-use attest::attestation::AttestRead;
 use attest::attestation::TpmsAttest;
-use keys::tpmt::PublicParmsRead;
-use keys::tpmt::PublicRead;
-use keys::tpmt::SensitiveRead;
-use keys::tpmt::SignatureRead;
+use attest::attestation::TpmsAttestRead;
 use keys::tpmt::TpmtPublic;
 use keys::tpmt::TpmtPublicParms;
+use keys::tpmt::TpmtPublicParmsRead;
+use keys::tpmt::TpmtPublicRead;
 use keys::tpmt::TpmtSensitive;
+use keys::tpmt::TpmtSensitiveRead;
 use keys::tpmt::TpmtSignature;
-use schemes::list::PcrSelectionsRead;
+use keys::tpmt::TpmtSignatureRead;
 use schemes::list::TpmlPcrSelection;
-use schemes::tpmt::EccSchemeRead;
-use schemes::tpmt::HaRead;
-use schemes::tpmt::KdfSchemeRead;
-use schemes::tpmt::KeyedhashSchemeRead;
-use schemes::tpmt::RsaDecryptRead;
-use schemes::tpmt::RsaSchemeRead;
-use schemes::tpmt::SigSchemeRead;
-use schemes::tpmt::SymDefRead;
+use schemes::list::TpmlPcrSelectionRead;
 use schemes::tpmt::TpmtEccScheme;
+use schemes::tpmt::TpmtEccSchemeRead;
 use schemes::tpmt::TpmtHa;
+use schemes::tpmt::TpmtHaRead;
 use schemes::tpmt::TpmtKdfScheme;
+use schemes::tpmt::TpmtKdfSchemeRead;
 use schemes::tpmt::TpmtKeyedhashScheme;
+use schemes::tpmt::TpmtKeyedhashSchemeRead;
 use schemes::tpmt::TpmtRsaDecrypt;
+use schemes::tpmt::TpmtRsaDecryptRead;
 use schemes::tpmt::TpmtRsaScheme;
+use schemes::tpmt::TpmtRsaSchemeRead;
 use schemes::tpmt::TpmtSigScheme;
+use schemes::tpmt::TpmtSigSchemeRead;
 use schemes::tpmt::TpmtSymDef;
+use schemes::tpmt::TpmtSymDefRead;
 use wire::fault::Refusal;
 use wire::measure::Measure;
 use wire::widen::wide_byte;
@@ -34,99 +34,99 @@ use writing::marshal;
 
 fn ha(s: &[u8], out: &mut [u8]) -> Measure {
     match TpmtHa::unmarshal(s, 0) {
-        HaRead::Found(x, _) => marshal::ha(x, s, out),
-        HaRead::No(f) => Measure::No(f),
+        TpmtHaRead::Found(x, _) => marshal::ha(x, s, out),
+        TpmtHaRead::No(f) => Measure::No(f),
     }
 }
 
 fn sym_def(s: &[u8], out: &mut [u8]) -> Measure {
     match TpmtSymDef::unmarshal(s, 0) {
-        SymDefRead::Found(x, _) => marshal::sym_def(x, s, out),
-        SymDefRead::No(f) => Measure::No(f),
+        TpmtSymDefRead::Found(x, _) => marshal::sym_def(x, s, out),
+        TpmtSymDefRead::No(f) => Measure::No(f),
     }
 }
 
 fn kdf_scheme(s: &[u8], out: &mut [u8]) -> Measure {
     match TpmtKdfScheme::unmarshal(s, 0) {
-        KdfSchemeRead::Found(x, _) => marshal::kdf_scheme(x, s, out),
-        KdfSchemeRead::No(f) => Measure::No(f),
+        TpmtKdfSchemeRead::Found(x, _) => marshal::kdf_scheme(x, s, out),
+        TpmtKdfSchemeRead::No(f) => Measure::No(f),
     }
 }
 
 fn keyedhash_scheme(s: &[u8], out: &mut [u8]) -> Measure {
     match TpmtKeyedhashScheme::unmarshal(s, 0) {
-        KeyedhashSchemeRead::Found(x, _) => marshal::keyedhash_scheme(x, s, out),
-        KeyedhashSchemeRead::No(f) => Measure::No(f),
+        TpmtKeyedhashSchemeRead::Found(x, _) => marshal::keyedhash_scheme(x, s, out),
+        TpmtKeyedhashSchemeRead::No(f) => Measure::No(f),
     }
 }
 
 fn sig_scheme(s: &[u8], out: &mut [u8]) -> Measure {
     match TpmtSigScheme::unmarshal(s, 0) {
-        SigSchemeRead::Found(x, _) => marshal::sig_scheme(x, s, out),
-        SigSchemeRead::No(f) => Measure::No(f),
+        TpmtSigSchemeRead::Found(x, _) => marshal::sig_scheme(x, s, out),
+        TpmtSigSchemeRead::No(f) => Measure::No(f),
     }
 }
 
 fn rsa_scheme(s: &[u8], out: &mut [u8]) -> Measure {
     match TpmtRsaScheme::unmarshal(s, 0) {
-        RsaSchemeRead::Found(x, _) => marshal::rsa_scheme(x, s, out),
-        RsaSchemeRead::No(f) => Measure::No(f),
+        TpmtRsaSchemeRead::Found(x, _) => marshal::rsa_scheme(x, s, out),
+        TpmtRsaSchemeRead::No(f) => Measure::No(f),
     }
 }
 
 fn ecc_scheme(s: &[u8], out: &mut [u8]) -> Measure {
     match TpmtEccScheme::unmarshal(s, 0) {
-        EccSchemeRead::Found(x, _) => marshal::ecc_scheme(x, s, out),
-        EccSchemeRead::No(f) => Measure::No(f),
+        TpmtEccSchemeRead::Found(x, _) => marshal::ecc_scheme(x, s, out),
+        TpmtEccSchemeRead::No(f) => Measure::No(f),
     }
 }
 
 fn rsa_decrypt(s: &[u8], out: &mut [u8]) -> Measure {
     match TpmtRsaDecrypt::unmarshal(s, 0) {
-        RsaDecryptRead::Found(x, _) => marshal::rsa_decrypt(x, s, out),
-        RsaDecryptRead::No(f) => Measure::No(f),
+        TpmtRsaDecryptRead::Found(x, _) => marshal::rsa_decrypt(x, s, out),
+        TpmtRsaDecryptRead::No(f) => Measure::No(f),
     }
 }
 
 fn public_parms(s: &[u8], out: &mut [u8]) -> Measure {
     match TpmtPublicParms::unmarshal(s, 0) {
-        PublicParmsRead::Found(x, _) => marshal::public_parms(x, s, out),
-        PublicParmsRead::No(f) => Measure::No(f),
+        TpmtPublicParmsRead::Found(x, _) => marshal::public_parms(x, s, out),
+        TpmtPublicParmsRead::No(f) => Measure::No(f),
     }
 }
 
 fn signature(s: &[u8], out: &mut [u8]) -> Measure {
     match TpmtSignature::unmarshal(s, 0) {
-        SignatureRead::Found(x, _) => marshal::signature(x, s, out),
-        SignatureRead::No(f) => Measure::No(f),
+        TpmtSignatureRead::Found(x, _) => marshal::signature(x, s, out),
+        TpmtSignatureRead::No(f) => Measure::No(f),
     }
 }
 
 fn public_area(s: &[u8], out: &mut [u8]) -> Measure {
     match TpmtPublic::unmarshal(s, 0) {
-        PublicRead::Found(x, _) => marshal::public_area(x, s, out),
-        PublicRead::No(f) => Measure::No(f),
+        TpmtPublicRead::Found(x, _) => marshal::public_area(x, s, out),
+        TpmtPublicRead::No(f) => Measure::No(f),
     }
 }
 
 fn sensitive_area(s: &[u8], out: &mut [u8]) -> Measure {
     match TpmtSensitive::unmarshal(s, 0) {
-        SensitiveRead::Found(x, _) => marshal::sensitive_area(x, s, out),
-        SensitiveRead::No(f) => Measure::No(f),
+        TpmtSensitiveRead::Found(x, _) => marshal::sensitive_area(x, s, out),
+        TpmtSensitiveRead::No(f) => Measure::No(f),
     }
 }
 
 fn attestation(s: &[u8], out: &mut [u8]) -> Measure {
     match TpmsAttest::unmarshal(s, 0) {
-        AttestRead::Found(x, _) => marshal::attestation(x, s, out),
-        AttestRead::No(f) => Measure::No(f),
+        TpmsAttestRead::Found(x, _) => marshal::attestation(x, s, out),
+        TpmsAttestRead::No(f) => Measure::No(f),
     }
 }
 
 fn pcr_selections(s: &[u8], out: &mut [u8]) -> Measure {
     match TpmlPcrSelection::unmarshal(s, 0) {
-        PcrSelectionsRead::Found(x, _) => marshal::pcr_selections(x, s, out),
-        PcrSelectionsRead::No(f) => Measure::No(f),
+        TpmlPcrSelectionRead::Found(x, _) => marshal::pcr_selections(x, s, out),
+        TpmlPcrSelectionRead::No(f) => Measure::No(f),
     }
 }
 

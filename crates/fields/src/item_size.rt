@@ -22,104 +22,104 @@ ghost use mathlib.Core.Path.{_≡_};
 ghost use mathlib.Core.List.{[]};
 ghost use Rattle.wire.specs.Answers.{measureAnswer};
 ghost use Rattle.wire.specs.Writing.{sizeOf, itemOf};
-ghost use Rattle.kinds.specs.Kinds.{pcrSelection};
-ghost use Rattle.schemes.specs.Parts.{pcrSelectionsParts};
+ghost use Rattle.kinds.specs.Kinds.{tpmsPcrSelection};
+ghost use Rattle.schemes.specs.Parts.{tpmlPcrSelectionParts};
 ghost use Rattle.flat.specs.Lists.{attestLists};
 
 // Kind 1, TPMT_HA
 pub fn ha(x: TpmtHa, s: &[u8], index: usize) -> Measure
-    ensures { λ r. ⌜ measureAnswer r ≡ sizeOf (itemOf 16 pcrSelection [] index (now (s .entry))) ⌝ }
+    ensures { λ r. ⌜ measureAnswer r ≡ sizeOf (itemOf 16 tpmsPcrSelection [] index (now (s .entry))) ⌝ }
 {
     tpmt::ha(Plan::empty(), x).item_size(s, index)
 }
 
 // Kind 2, TPMT_SYM_DEF
 pub fn sym_def(x: TpmtSymDef, s: &[u8], index: usize) -> Measure
-    ensures { λ r. ⌜ measureAnswer r ≡ sizeOf (itemOf 16 pcrSelection [] index (now (s .entry))) ⌝ }
+    ensures { λ r. ⌜ measureAnswer r ≡ sizeOf (itemOf 16 tpmsPcrSelection [] index (now (s .entry))) ⌝ }
 {
     tpmt::sym_def(Plan::empty(), x).item_size(s, index)
 }
 
 // Kind 3, TPMT_KDF_SCHEME
 pub fn kdf_scheme(x: TpmtKdfScheme, s: &[u8], index: usize) -> Measure
-    ensures { λ r. ⌜ measureAnswer r ≡ sizeOf (itemOf 16 pcrSelection [] index (now (s .entry))) ⌝ }
+    ensures { λ r. ⌜ measureAnswer r ≡ sizeOf (itemOf 16 tpmsPcrSelection [] index (now (s .entry))) ⌝ }
 {
     tpmt::kdf_scheme(Plan::empty(), x).item_size(s, index)
 }
 
 // Kind 4, TPMT_KEYEDHASH_SCHEME
 pub fn keyedhash_scheme(x: TpmtKeyedhashScheme, s: &[u8], index: usize) -> Measure
-    ensures { λ r. ⌜ measureAnswer r ≡ sizeOf (itemOf 16 pcrSelection [] index (now (s .entry))) ⌝ }
+    ensures { λ r. ⌜ measureAnswer r ≡ sizeOf (itemOf 16 tpmsPcrSelection [] index (now (s .entry))) ⌝ }
 {
     tpmt::keyedhash_scheme(Plan::empty(), x).item_size(s, index)
 }
 
 // Kind 5, TPMT_SIG_SCHEME
 pub fn sig_scheme(x: TpmtSigScheme, s: &[u8], index: usize) -> Measure
-    ensures { λ r. ⌜ measureAnswer r ≡ sizeOf (itemOf 16 pcrSelection [] index (now (s .entry))) ⌝ }
+    ensures { λ r. ⌜ measureAnswer r ≡ sizeOf (itemOf 16 tpmsPcrSelection [] index (now (s .entry))) ⌝ }
 {
     tpmt::sig_scheme(Plan::empty(), x).item_size(s, index)
 }
 
 // Kind 6, TPMT_RSA_SCHEME
 pub fn rsa_scheme(x: TpmtRsaScheme, s: &[u8], index: usize) -> Measure
-    ensures { λ r. ⌜ measureAnswer r ≡ sizeOf (itemOf 16 pcrSelection [] index (now (s .entry))) ⌝ }
+    ensures { λ r. ⌜ measureAnswer r ≡ sizeOf (itemOf 16 tpmsPcrSelection [] index (now (s .entry))) ⌝ }
 {
     tpmt::rsa_scheme(Plan::empty(), x).item_size(s, index)
 }
 
 // Kind 7, TPMT_ECC_SCHEME
 pub fn ecc_scheme(x: TpmtEccScheme, s: &[u8], index: usize) -> Measure
-    ensures { λ r. ⌜ measureAnswer r ≡ sizeOf (itemOf 16 pcrSelection [] index (now (s .entry))) ⌝ }
+    ensures { λ r. ⌜ measureAnswer r ≡ sizeOf (itemOf 16 tpmsPcrSelection [] index (now (s .entry))) ⌝ }
 {
     tpmt::ecc_scheme(Plan::empty(), x).item_size(s, index)
 }
 
 // Kind 8, TPMT_RSA_DECRYPT
 pub fn rsa_decrypt(x: TpmtRsaDecrypt, s: &[u8], index: usize) -> Measure
-    ensures { λ r. ⌜ measureAnswer r ≡ sizeOf (itemOf 16 pcrSelection [] index (now (s .entry))) ⌝ }
+    ensures { λ r. ⌜ measureAnswer r ≡ sizeOf (itemOf 16 tpmsPcrSelection [] index (now (s .entry))) ⌝ }
 {
     tpmt::rsa_decrypt(Plan::empty(), x).item_size(s, index)
 }
 
 // Kind 9, TPMT_PUBLIC_PARMS
 pub fn public_parms(x: TpmtPublicParms, s: &[u8], index: usize) -> Measure
-    ensures { λ r. ⌜ measureAnswer r ≡ sizeOf (itemOf 16 pcrSelection [] index (now (s .entry))) ⌝ }
+    ensures { λ r. ⌜ measureAnswer r ≡ sizeOf (itemOf 16 tpmsPcrSelection [] index (now (s .entry))) ⌝ }
 {
     tpmt::public_parms(Plan::empty(), x).item_size(s, index)
 }
 
 // Kind 10, TPMT_SIGNATURE
 pub fn signature(x: TpmtSignature, s: &[u8], index: usize) -> Measure
-    ensures { λ r. ⌜ measureAnswer r ≡ sizeOf (itemOf 16 pcrSelection [] index (now (s .entry))) ⌝ }
+    ensures { λ r. ⌜ measureAnswer r ≡ sizeOf (itemOf 16 tpmsPcrSelection [] index (now (s .entry))) ⌝ }
 {
     tpmt::signature(Plan::empty(), x).item_size(s, index)
 }
 
 // Kind 11, TPMT_PUBLIC
 pub fn public_area(x: TpmtPublic, s: &[u8], index: usize) -> Measure
-    ensures { λ r. ⌜ measureAnswer r ≡ sizeOf (itemOf 16 pcrSelection [] index (now (s .entry))) ⌝ }
+    ensures { λ r. ⌜ measureAnswer r ≡ sizeOf (itemOf 16 tpmsPcrSelection [] index (now (s .entry))) ⌝ }
 {
     tpmt::public_area(Plan::empty(), x).item_size(s, index)
 }
 
 // Kind 12, TPMT_SENSITIVE
 pub fn sensitive_area(x: TpmtSensitive, s: &[u8], index: usize) -> Measure
-    ensures { λ r. ⌜ measureAnswer r ≡ sizeOf (itemOf 16 pcrSelection [] index (now (s .entry))) ⌝ }
+    ensures { λ r. ⌜ measureAnswer r ≡ sizeOf (itemOf 16 tpmsPcrSelection [] index (now (s .entry))) ⌝ }
 {
     tpmt::sensitive_area(Plan::empty(), x).item_size(s, index)
 }
 
 // Kind 13, TPMS_ATTEST
 pub fn attestation(x: TpmsAttest, s: &[u8], index: usize) -> Measure
-    ensures { λ r. ⌜ measureAnswer r ≡ sizeOf (itemOf 16 pcrSelection (attestLists x) index (now (s .entry))) ⌝ }
+    ensures { λ r. ⌜ measureAnswer r ≡ sizeOf (itemOf 16 tpmsPcrSelection (attestLists x) index (now (s .entry))) ⌝ }
 {
     attestation::attest(Plan::empty(), x).item_size(s, index)
 }
 
 // Kind 14, TPML_PCR_SELECTION
 pub fn pcr_selections(x: TpmlPcrSelection, s: &[u8], index: usize) -> Measure
-    ensures { λ r. ⌜ measureAnswer r ≡ sizeOf (itemOf 16 pcrSelection (pcrSelectionsParts x) index (now (s .entry))) ⌝ }
+    ensures { λ r. ⌜ measureAnswer r ≡ sizeOf (itemOf 16 tpmsPcrSelection (tpmlPcrSelectionParts x) index (now (s .entry))) ⌝ }
 {
     list::pcr_selections(Plan::empty(), x).item_size(s, index)
 }

@@ -9,7 +9,7 @@ use Rattle.wire.specs.Answers.{lenOf, spanPart}
 use Rattle.wire.specs.Layout.{Layout, stop}
 use Rattle.wire.specs.Reading.{Part, tag}
 use Rattle.wire.specs.Unions.{union, isArm}
-use Rattle.kinds.specs.Kinds.{haBody}
+use Rattle.kinds.specs.Kinds.{tpmuHaBody}
 use Rattle.schemes.specs.Parts.{held}
 use Rattle.plans.specs.Steps.{Pushed, Adds, due, dueSize}
 use Rattle.plans.specs.declared.plan.Plan.{Plan}
@@ -37,5 +37,5 @@ module _ {p q : Plan} {c c′ : Choice} {b : Bool} {us : List Part} (v : ℕ) (s
 
   -- a digest
   pub holds-digest : {n : ℕ} {r : Plan} (s : Span) → us ≡ tag (suc (lenOf s)) ∷ spanPart s ∷ [] → n ≡ dueSize c → Pushed q (Step.Plain n s ∷ []) r
-      → Adds (union c′ haBody v) us [] 2 p r
+      → Adds (union c′ tpmuHaBody v) us [] 2 p r
   holds-digest s e size more = rw e (adds-digest v s same (told-by e) push size more)

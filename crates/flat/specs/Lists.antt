@@ -1,7 +1,7 @@
 -- The lists of attestations. Assumes nothing.
 use mathlib.Core.List.{List, []}
 use Rattle.wire.specs.Reading.{Part}
-use Rattle.schemes.specs.Parts.{pcrSelectionsParts}
+use Rattle.schemes.specs.Parts.{tpmlPcrSelectionParts}
 use Rattle.attest.specs.declared.tpmu.TpmuAttest.{TpmuAttest}
 use Rattle.attest.specs.declared.attestation.TpmsAttest.{TpmsAttest}
 
@@ -9,7 +9,7 @@ use Rattle.attest.specs.declared.attestation.TpmsAttest.{TpmsAttest}
 abbrev pub attestedLists : TpmuAttest → List Part
 attestedLists (TpmuAttest.Certify i) = []
 attestedLists (TpmuAttest.Creation i) = []
-attestedLists (TpmuAttest.Quote i) = pcrSelectionsParts (i .«pcr_select»)
+attestedLists (TpmuAttest.Quote i) = tpmlPcrSelectionParts (i .«pcr_select»)
 attestedLists (TpmuAttest.CommandAudit i) = []
 attestedLists (TpmuAttest.SessionAudit i) = []
 attestedLists (TpmuAttest.Time i) = []

@@ -4,15 +4,15 @@ use crate::tpmu;
 use attest::attestation::TpmsAttest;
 use kinds::limits;
 use plans::plan::Plan;
-ghost use Rattle.kinds.specs.Kinds.{attest};
-ghost use Rattle.attest.specs.Parts.{attestParts};
+ghost use Rattle.kinds.specs.Kinds.{tpmsAttest};
+ghost use Rattle.attest.specs.Parts.{tpmsAttestParts};
 ghost use Rattle.plans.specs.Steps.{Room, Adds};
 ghost use Rattle.flat.specs.Lists.{attestLists};
 
 // Kind 13, TPMS_ATTEST
 pub fn attest(p: Plan, x: TpmsAttest) -> Plan
     requires { ⌜ Room 16 p ⌝ }
-    ensures { λ r. ⌜ Adds attest (attestParts x) (attestLists x) 16 p r ⌝ }
+    ensures { λ r. ⌜ Adds tpmsAttest (tpmsAttestParts x) (attestLists x) 16 p r ⌝ }
 {
     let m = x.magic;
     let t = x.attest_type;

@@ -23,10 +23,10 @@ use plans::plan::Plan;
 use schemes::tpms::TpmsSchemeHash;
 use schemes::tpms::TpmsSchemeXor;
 ghost use mathlib.Core.List.{[]};
-ghost use Rattle.kinds.specs.Kinds.{schemeHash, schemeXor, keyedhashScheme, symDef, rsaParms, eccParms, eccPoint, signatureRsa, signatureEcc, clockInfo, timeInfo, certifyInfo, creationInfo, quoteInfo, commandAuditInfo, sessionAuditInfo, timeAttestInfo, nvCertifyInfo, nvDigestCertifyInfo};
-ghost use Rattle.schemes.specs.Parts.{schemeHashParts, schemeXorParts, pcrSelectionsParts};
-ghost use Rattle.keys.specs.Parts.{keyedhashParmsParts, symcipherParmsParts, rsaParmsParts, eccParmsParts, eccPointParts, signatureRsaParts, signatureEccParts};
-ghost use Rattle.attest.specs.Parts.{clockInfoParts, timeInfoParts, certifyInfoParts, creationInfoParts, quoteInfoParts, commandAuditInfoParts, sessionAuditInfoParts, timeAttestInfoParts, nvCertifyInfoParts, nvDigestCertifyInfoParts};
+ghost use Rattle.kinds.specs.Kinds.{tpmsSchemeHash, tpmsSchemeXor, tpmtKeyedhashScheme, tpmtSymDef, tpmsRsaParms, tpmsEccParms, tpmsEccPoint, tpmsSignatureRsa, tpmsSignatureEcc, tpmsClockInfo, tpmsTimeInfo, tpmsCertifyInfo, tpmsCreationInfo, tpmsQuoteInfo, tpmsCommandAuditInfo, tpmsSessionAuditInfo, tpmsTimeAttestInfo, tpmsNvCertifyInfo, tpmsNvDigestCertifyInfo};
+ghost use Rattle.schemes.specs.Parts.{tpmsSchemeHashParts, tpmsSchemeXorParts, tpmlPcrSelectionParts};
+ghost use Rattle.keys.specs.Parts.{tpmsKeyedhashParmsParts, tpmsSymcipherParmsParts, tpmsRsaParmsParts, tpmsEccParmsParts, tpmsEccPointParts, tpmsSignatureRsaParts, tpmsSignatureEccParts};
+ghost use Rattle.attest.specs.Parts.{tpmsClockInfoParts, tpmsTimeInfoParts, tpmsCertifyInfoParts, tpmsCreationInfoParts, tpmsQuoteInfoParts, tpmsCommandAuditInfoParts, tpmsSessionAuditInfoParts, tpmsTimeAttestInfoParts, tpmsNvCertifyInfoParts, tpmsNvDigestCertifyInfoParts};
 ghost use Rattle.plans.specs.Steps.{Room, Adds};
 
 // ---- what schemes hold
@@ -34,7 +34,7 @@ ghost use Rattle.plans.specs.Steps.{Room, Adds};
 // TPMS_SCHEME_HASH
 pub fn scheme_hash(p: Plan, x: TpmsSchemeHash) -> Plan
     requires { ⌜ Room 1 p ⌝ }
-    ensures { λ r. ⌜ Adds schemeHash (schemeHashParts x) [] 1 p r ⌝ }
+    ensures { λ r. ⌜ Adds tpmsSchemeHash (tpmsSchemeHashParts x) [] 1 p r ⌝ }
 {
     p.algorithm(x.hash_alg)
 }
@@ -42,7 +42,7 @@ pub fn scheme_hash(p: Plan, x: TpmsSchemeHash) -> Plan
 // TPMS_SCHEME_XOR
 pub fn scheme_xor(p: Plan, x: TpmsSchemeXor) -> Plan
     requires { ⌜ Room 2 p ⌝ }
-    ensures { λ r. ⌜ Adds schemeXor (schemeXorParts x) [] 2 p r ⌝ }
+    ensures { λ r. ⌜ Adds tpmsSchemeXor (tpmsSchemeXorParts x) [] 2 p r ⌝ }
 {
     p.algorithm(x.hash_alg).algorithm(x.kdf)
 }
@@ -52,7 +52,7 @@ pub fn scheme_xor(p: Plan, x: TpmsSchemeXor) -> Plan
 // TPMS_KEYEDHASH_PARMS
 pub fn keyedhash_parms(p: Plan, x: TpmsKeyedhashParms) -> Plan
     requires { ⌜ Room 4 p ⌝ }
-    ensures { λ r. ⌜ Adds keyedhashScheme (keyedhashParmsParts x) [] 4 p r ⌝ }
+    ensures { λ r. ⌜ Adds tpmtKeyedhashScheme (tpmsKeyedhashParmsParts x) [] 4 p r ⌝ }
 {
     let s = x.scheme;
     tpmt::keyedhash_scheme(p, s)
@@ -61,7 +61,7 @@ pub fn keyedhash_parms(p: Plan, x: TpmsKeyedhashParms) -> Plan
 // TPMS_SYMCIPHER_PARMS
 pub fn symcipher_parms(p: Plan, x: TpmsSymcipherParms) -> Plan
     requires { ⌜ Room 5 p ⌝ }
-    ensures { λ r. ⌜ Adds symDef (symcipherParmsParts x) [] 5 p r ⌝ }
+    ensures { λ r. ⌜ Adds tpmtSymDef (tpmsSymcipherParmsParts x) [] 5 p r ⌝ }
 {
     let s = x.sym;
     tpmt::sym_def(p, s)
@@ -70,7 +70,7 @@ pub fn symcipher_parms(p: Plan, x: TpmsSymcipherParms) -> Plan
 // TPMS_RSA_PARMS
 pub fn rsa_parms(p: Plan, x: TpmsRsaParms) -> Plan
     requires { ⌜ Room 10 p ⌝ }
-    ensures { λ r. ⌜ Adds rsaParms (rsaParmsParts x) [] 10 p r ⌝ }
+    ensures { λ r. ⌜ Adds tpmsRsaParms (tpmsRsaParmsParts x) [] 10 p r ⌝ }
 {
     let d = x.symmetric;
     let s = x.scheme;
@@ -82,7 +82,7 @@ pub fn rsa_parms(p: Plan, x: TpmsRsaParms) -> Plan
 // TPMS_ECC_PARMS
 pub fn ecc_parms(p: Plan, x: TpmsEccParms) -> Plan
     requires { ⌜ Room 12 p ⌝ }
-    ensures { λ r. ⌜ Adds eccParms (eccParmsParts x) [] 12 p r ⌝ }
+    ensures { λ r. ⌜ Adds tpmsEccParms (tpmsEccParmsParts x) [] 12 p r ⌝ }
 {
     let d = x.symmetric;
     let s = x.scheme;
@@ -94,7 +94,7 @@ pub fn ecc_parms(p: Plan, x: TpmsEccParms) -> Plan
 // TPMS_ECC_POINT
 pub fn ecc_point(p: Plan, x: TpmsEccPoint) -> Plan
     requires { ⌜ Room 2 p ⌝ }
-    ensures { λ r. ⌜ Adds eccPoint (eccPointParts x) [] 2 p r ⌝ }
+    ensures { λ r. ⌜ Adds tpmsEccPoint (tpmsEccPointParts x) [] 2 p r ⌝ }
 {
     p.buffer(limits::MAX_ECC_KEY_BYTES, x.x)
         .buffer(limits::MAX_ECC_KEY_BYTES, x.y)
@@ -103,7 +103,7 @@ pub fn ecc_point(p: Plan, x: TpmsEccPoint) -> Plan
 // TPMS_SIGNATURE_RSA
 pub fn signature_rsa(p: Plan, x: TpmsSignatureRsa) -> Plan
     requires { ⌜ Room 2 p ⌝ }
-    ensures { λ r. ⌜ Adds signatureRsa (signatureRsaParts x) [] 2 p r ⌝ }
+    ensures { λ r. ⌜ Adds tpmsSignatureRsa (tpmsSignatureRsaParts x) [] 2 p r ⌝ }
 {
     p.algorithm(x.hash).buffer(limits::MAX_RSA_KEY_BYTES, x.sig)
 }
@@ -111,7 +111,7 @@ pub fn signature_rsa(p: Plan, x: TpmsSignatureRsa) -> Plan
 // TPMS_SIGNATURE_ECC
 pub fn signature_ecc(p: Plan, x: TpmsSignatureEcc) -> Plan
     requires { ⌜ Room 3 p ⌝ }
-    ensures { λ r. ⌜ Adds signatureEcc (signatureEccParts x) [] 3 p r ⌝ }
+    ensures { λ r. ⌜ Adds tpmsSignatureEcc (tpmsSignatureEccParts x) [] 3 p r ⌝ }
 {
     p.algorithm(x.hash)
         .buffer(limits::MAX_ECC_KEY_BYTES, x.signature_r)
@@ -123,7 +123,7 @@ pub fn signature_ecc(p: Plan, x: TpmsSignatureEcc) -> Plan
 // TPMS_CLOCK_INFO
 pub fn clock_info(p: Plan, x: TpmsClockInfo) -> Plan
     requires { ⌜ Room 4 p ⌝ }
-    ensures { λ r. ⌜ Adds clockInfo (clockInfoParts x) [] 4 p r ⌝ }
+    ensures { λ r. ⌜ Adds tpmsClockInfo (tpmsClockInfoParts x) [] 4 p r ⌝ }
 {
     p.uint64(x.clock)
         .uint32(x.reset_count)
@@ -134,7 +134,7 @@ pub fn clock_info(p: Plan, x: TpmsClockInfo) -> Plan
 // TPMS_TIME_INFO
 pub fn time_info(p: Plan, x: TpmsTimeInfo) -> Plan
     requires { ⌜ Room 5 p ⌝ }
-    ensures { λ r. ⌜ Adds timeInfo (timeInfoParts x) [] 5 p r ⌝ }
+    ensures { λ r. ⌜ Adds tpmsTimeInfo (tpmsTimeInfoParts x) [] 5 p r ⌝ }
 {
     let t = x.time;
     let c = x.clock_info;
@@ -144,7 +144,7 @@ pub fn time_info(p: Plan, x: TpmsTimeInfo) -> Plan
 // TPMS_CERTIFY_INFO
 pub fn certify_info(p: Plan, x: TpmsCertifyInfo) -> Plan
     requires { ⌜ Room 2 p ⌝ }
-    ensures { λ r. ⌜ Adds certifyInfo (certifyInfoParts x) [] 2 p r ⌝ }
+    ensures { λ r. ⌜ Adds tpmsCertifyInfo (tpmsCertifyInfoParts x) [] 2 p r ⌝ }
 {
     p.buffer(limits::MAX_NAME_SIZE, x.name)
         .buffer(limits::MAX_NAME_SIZE, x.qualified_name)
@@ -153,7 +153,7 @@ pub fn certify_info(p: Plan, x: TpmsCertifyInfo) -> Plan
 // TPMS_CREATION_INFO
 pub fn creation_info(p: Plan, x: TpmsCreationInfo) -> Plan
     requires { ⌜ Room 2 p ⌝ }
-    ensures { λ r. ⌜ Adds creationInfo (creationInfoParts x) [] 2 p r ⌝ }
+    ensures { λ r. ⌜ Adds tpmsCreationInfo (tpmsCreationInfoParts x) [] 2 p r ⌝ }
 {
     p.buffer(limits::MAX_NAME_SIZE, x.object_name)
         .buffer(limits::MAX_DIGEST_SIZE, x.creation_hash)
@@ -162,7 +162,7 @@ pub fn creation_info(p: Plan, x: TpmsCreationInfo) -> Plan
 // TPMS_QUOTE_INFO
 pub fn quote_info(p: Plan, x: TpmsQuoteInfo) -> Plan
     requires { ⌜ Room 2 p ⌝ }
-    ensures { λ r. ⌜ Adds quoteInfo (quoteInfoParts x) (pcrSelectionsParts (x .«pcr_select»)) 2 p r ⌝ }
+    ensures { λ r. ⌜ Adds tpmsQuoteInfo (tpmsQuoteInfoParts x) (tpmlPcrSelectionParts (x .«pcr_select»)) 2 p r ⌝ }
 {
     let l = x.pcr_select;
     let d = x.pcr_digest;
@@ -172,7 +172,7 @@ pub fn quote_info(p: Plan, x: TpmsQuoteInfo) -> Plan
 // TPMS_COMMAND_AUDIT_INFO
 pub fn command_audit_info(p: Plan, x: TpmsCommandAuditInfo) -> Plan
     requires { ⌜ Room 4 p ⌝ }
-    ensures { λ r. ⌜ Adds commandAuditInfo (commandAuditInfoParts x) [] 4 p r ⌝ }
+    ensures { λ r. ⌜ Adds tpmsCommandAuditInfo (tpmsCommandAuditInfoParts x) [] 4 p r ⌝ }
 {
     p.uint64(x.audit_counter)
         .algorithm(x.digest_alg)
@@ -183,7 +183,7 @@ pub fn command_audit_info(p: Plan, x: TpmsCommandAuditInfo) -> Plan
 // TPMS_SESSION_AUDIT_INFO
 pub fn session_audit_info(p: Plan, x: TpmsSessionAuditInfo) -> Plan
     requires { ⌜ Room 2 p ⌝ }
-    ensures { λ r. ⌜ Adds sessionAuditInfo (sessionAuditInfoParts x) [] 2 p r ⌝ }
+    ensures { λ r. ⌜ Adds tpmsSessionAuditInfo (tpmsSessionAuditInfoParts x) [] 2 p r ⌝ }
 {
     p.yes_no(x.exclusive_session)
         .buffer(limits::MAX_DIGEST_SIZE, x.session_digest)
@@ -192,7 +192,7 @@ pub fn session_audit_info(p: Plan, x: TpmsSessionAuditInfo) -> Plan
 // TPMS_TIME_ATTEST_INFO
 pub fn time_attest_info(p: Plan, x: TpmsTimeAttestInfo) -> Plan
     requires { ⌜ Room 6 p ⌝ }
-    ensures { λ r. ⌜ Adds timeAttestInfo (timeAttestInfoParts x) [] 6 p r ⌝ }
+    ensures { λ r. ⌜ Adds tpmsTimeAttestInfo (tpmsTimeAttestInfoParts x) [] 6 p r ⌝ }
 {
     let t = x.time;
     let v = x.firmware_version;
@@ -202,7 +202,7 @@ pub fn time_attest_info(p: Plan, x: TpmsTimeAttestInfo) -> Plan
 // TPMS_NV_CERTIFY_INFO
 pub fn nv_certify_info(p: Plan, x: TpmsNvCertifyInfo) -> Plan
     requires { ⌜ Room 3 p ⌝ }
-    ensures { λ r. ⌜ Adds nvCertifyInfo (nvCertifyInfoParts x) [] 3 p r ⌝ }
+    ensures { λ r. ⌜ Adds tpmsNvCertifyInfo (tpmsNvCertifyInfoParts x) [] 3 p r ⌝ }
 {
     p.buffer(limits::MAX_NAME_SIZE, x.index_name)
         .uint16(x.offset)
@@ -212,7 +212,7 @@ pub fn nv_certify_info(p: Plan, x: TpmsNvCertifyInfo) -> Plan
 // TPMS_NV_DIGEST_CERTIFY_INFO
 pub fn nv_digest_certify_info(p: Plan, x: TpmsNvDigestCertifyInfo) -> Plan
     requires { ⌜ Room 2 p ⌝ }
-    ensures { λ r. ⌜ Adds nvDigestCertifyInfo (nvDigestCertifyInfoParts x) [] 2 p r ⌝ }
+    ensures { λ r. ⌜ Adds tpmsNvDigestCertifyInfo (tpmsNvDigestCertifyInfoParts x) [] 2 p r ⌝ }
 {
     p.buffer(limits::MAX_NAME_SIZE, x.index_name)
         .buffer(limits::MAX_DIGEST_SIZE, x.nv_digest)

@@ -15,9 +15,9 @@ use schemes::tpmt::TpmtRsaScheme;
 use schemes::tpmt::TpmtSigScheme;
 use schemes::tpmt::TpmtSymDef;
 ghost use mathlib.Core.List.{[]};
-ghost use Rattle.kinds.specs.Kinds.{ha, symDef, kdfScheme, keyedhashScheme, sigScheme, asymScheme, publicParms, signature, publicArea, sensitive};
-ghost use Rattle.schemes.specs.Parts.{haParts, symDefParts, kdfSchemeParts, keyedhashSchemeParts, sigSchemeParts, rsaSchemeParts, eccSchemeParts, rsaDecryptParts};
-ghost use Rattle.keys.specs.Parts.{publicParmsParts, signatureParts, publicParts, sensitiveParts};
+ghost use Rattle.kinds.specs.Kinds.{tpmtHa, tpmtSymDef, tpmtKdfScheme, tpmtKeyedhashScheme, tpmtSigScheme, tpmtAsymScheme, tpmtPublicParms, tpmtSignature, tpmtPublic, tpmtSensitive};
+ghost use Rattle.schemes.specs.Parts.{tpmtHaParts, tpmtSymDefParts, tpmtKdfSchemeParts, tpmtKeyedhashSchemeParts, tpmtSigSchemeParts, tpmtRsaSchemeParts, tpmtEccSchemeParts, tpmtRsaDecryptParts};
+ghost use Rattle.keys.specs.Parts.{tpmtPublicParmsParts, tpmtSignatureParts, tpmtPublicParts, tpmtSensitiveParts};
 ghost use Rattle.plans.specs.Steps.{Room, Adds};
 
 // ---- kinds 1 to 8
@@ -25,7 +25,7 @@ ghost use Rattle.plans.specs.Steps.{Room, Adds};
 // Kind 1, TPMT_HA
 pub fn ha(p: Plan, x: TpmtHa) -> Plan
     requires { ⌜ Room 3 p ⌝ }
-    ensures { λ r. ⌜ Adds ha (haParts x) [] 3 p r ⌝ }
+    ensures { λ r. ⌜ Adds tpmtHa (tpmtHaParts x) [] 3 p r ⌝ }
 {
     let a = x.hash_alg;
     let d = x.digest;
@@ -35,7 +35,7 @@ pub fn ha(p: Plan, x: TpmtHa) -> Plan
 // Kind 2, TPMT_SYM_DEF
 pub fn sym_def(p: Plan, x: TpmtSymDef) -> Plan
     requires { ⌜ Room 5 p ⌝ }
-    ensures { λ r. ⌜ Adds symDef (symDefParts x) [] 5 p r ⌝ }
+    ensures { λ r. ⌜ Adds tpmtSymDef (tpmtSymDefParts x) [] 5 p r ⌝ }
 {
     let a = x.algorithm;
     let k = x.key_bits;
@@ -46,7 +46,7 @@ pub fn sym_def(p: Plan, x: TpmtSymDef) -> Plan
 // Kind 3, TPMT_KDF_SCHEME
 pub fn kdf_scheme(p: Plan, x: TpmtKdfScheme) -> Plan
     requires { ⌜ Room 3 p ⌝ }
-    ensures { λ r. ⌜ Adds kdfScheme (kdfSchemeParts x) [] 3 p r ⌝ }
+    ensures { λ r. ⌜ Adds tpmtKdfScheme (tpmtKdfSchemeParts x) [] 3 p r ⌝ }
 {
     let a = x.scheme;
     let d = x.details;
@@ -56,7 +56,7 @@ pub fn kdf_scheme(p: Plan, x: TpmtKdfScheme) -> Plan
 // Kind 4, TPMT_KEYEDHASH_SCHEME
 pub fn keyedhash_scheme(p: Plan, x: TpmtKeyedhashScheme) -> Plan
     requires { ⌜ Room 4 p ⌝ }
-    ensures { λ r. ⌜ Adds keyedhashScheme (keyedhashSchemeParts x) [] 4 p r ⌝ }
+    ensures { λ r. ⌜ Adds tpmtKeyedhashScheme (tpmtKeyedhashSchemeParts x) [] 4 p r ⌝ }
 {
     let a = x.scheme;
     let d = x.details;
@@ -66,7 +66,7 @@ pub fn keyedhash_scheme(p: Plan, x: TpmtKeyedhashScheme) -> Plan
 // Kind 5, TPMT_SIG_SCHEME
 pub fn sig_scheme(p: Plan, x: TpmtSigScheme) -> Plan
     requires { ⌜ Room 3 p ⌝ }
-    ensures { λ r. ⌜ Adds sigScheme (sigSchemeParts x) [] 3 p r ⌝ }
+    ensures { λ r. ⌜ Adds tpmtSigScheme (tpmtSigSchemeParts x) [] 3 p r ⌝ }
 {
     let a = x.scheme;
     let d = x.details;
@@ -76,7 +76,7 @@ pub fn sig_scheme(p: Plan, x: TpmtSigScheme) -> Plan
 // Kind 6, TPMT_RSA_SCHEME
 pub fn rsa_scheme(p: Plan, x: TpmtRsaScheme) -> Plan
     requires { ⌜ Room 3 p ⌝ }
-    ensures { λ r. ⌜ Adds asymScheme (rsaSchemeParts x) [] 3 p r ⌝ }
+    ensures { λ r. ⌜ Adds tpmtAsymScheme (tpmtRsaSchemeParts x) [] 3 p r ⌝ }
 {
     let a = x.scheme;
     let d = x.details;
@@ -86,7 +86,7 @@ pub fn rsa_scheme(p: Plan, x: TpmtRsaScheme) -> Plan
 // Kind 7, TPMT_ECC_SCHEME
 pub fn ecc_scheme(p: Plan, x: TpmtEccScheme) -> Plan
     requires { ⌜ Room 3 p ⌝ }
-    ensures { λ r. ⌜ Adds asymScheme (eccSchemeParts x) [] 3 p r ⌝ }
+    ensures { λ r. ⌜ Adds tpmtAsymScheme (tpmtEccSchemeParts x) [] 3 p r ⌝ }
 {
     let a = x.scheme;
     let d = x.details;
@@ -96,7 +96,7 @@ pub fn ecc_scheme(p: Plan, x: TpmtEccScheme) -> Plan
 // Kind 8, TPMT_RSA_DECRYPT
 pub fn rsa_decrypt(p: Plan, x: TpmtRsaDecrypt) -> Plan
     requires { ⌜ Room 3 p ⌝ }
-    ensures { λ r. ⌜ Adds asymScheme (rsaDecryptParts x) [] 3 p r ⌝ }
+    ensures { λ r. ⌜ Adds tpmtAsymScheme (tpmtRsaDecryptParts x) [] 3 p r ⌝ }
 {
     let a = x.scheme;
     let d = x.details;
@@ -108,7 +108,7 @@ pub fn rsa_decrypt(p: Plan, x: TpmtRsaDecrypt) -> Plan
 // Kind 9, TPMT_PUBLIC_PARMS
 pub fn public_parms(p: Plan, x: TpmtPublicParms) -> Plan
     requires { ⌜ Room 14 p ⌝ }
-    ensures { λ r. ⌜ Adds publicParms (publicParmsParts x) [] 14 p r ⌝ }
+    ensures { λ r. ⌜ Adds tpmtPublicParms (tpmtPublicParmsParts x) [] 14 p r ⌝ }
 {
     let a = x.object_type;
     let y = x.parameters;
@@ -118,7 +118,7 @@ pub fn public_parms(p: Plan, x: TpmtPublicParms) -> Plan
 // Kind 10, TPMT_SIGNATURE
 pub fn signature(p: Plan, x: TpmtSignature) -> Plan
     requires { ⌜ Room 5 p ⌝ }
-    ensures { λ r. ⌜ Adds signature (signatureParts x) [] 5 p r ⌝ }
+    ensures { λ r. ⌜ Adds tpmtSignature (tpmtSignatureParts x) [] 5 p r ⌝ }
 {
     let a = x.sig_alg;
     let s = x.signature;
@@ -128,7 +128,7 @@ pub fn signature(p: Plan, x: TpmtSignature) -> Plan
 // Kind 11, TPMT_PUBLIC: both arms by type
 pub fn public_area(p: Plan, x: TpmtPublic) -> Plan
     requires { ⌜ Room 20 p ⌝ }
-    ensures { λ r. ⌜ Adds publicArea (publicParts x) [] 20 p r ⌝ }
+    ensures { λ r. ⌜ Adds tpmtPublic (tpmtPublicParts x) [] 20 p r ⌝ }
 {
     let a = x.object_type;
     let n = x.name_alg;
@@ -146,7 +146,7 @@ pub fn public_area(p: Plan, x: TpmtPublic) -> Plan
 // Kind 12, TPMT_SENSITIVE
 pub fn sensitive_area(p: Plan, x: TpmtSensitive) -> Plan
     requires { ⌜ Room 5 p ⌝ }
-    ensures { λ r. ⌜ Adds sensitive (sensitiveParts x) [] 5 p r ⌝ }
+    ensures { λ r. ⌜ Adds tpmtSensitive (tpmtSensitiveParts x) [] 5 p r ⌝ }
 {
     let a = x.sensitive_type;
     let v = x.auth_value;

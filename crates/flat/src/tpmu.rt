@@ -36,10 +36,10 @@ use schemes::tpmu::TpmuSigScheme;
 use schemes::tpmu::TpmuSymKeyBits;
 use schemes::tpmu::TpmuSymMode;
 ghost use mathlib.Core.List.{[]};
-ghost use Rattle.kinds.specs.Kinds.{haBy, asymBy, sigBy, keyedhashBy, kdfBy, keyBitsBy, modeBy, parmsBy, uniqueBy, sensitiveBy, signatureBy, attestBy};
-ghost use Rattle.schemes.specs.Parts.{digestParts, asymParts, sigParts, keyedhashParts, kdfParts, keyBitsParts, modeParts};
-ghost use Rattle.keys.specs.Parts.{parmsParts, uniqueParts, compositeParts, sigUnionParts};
-ghost use Rattle.attest.specs.Parts.{attestedParts};
+ghost use Rattle.kinds.specs.Kinds.{tpmuHa, tpmuAsymScheme, tpmuSigScheme, tpmuKeyedhashScheme, tpmuKdfScheme, tpmuSymKeyBits, tpmuSymMode, tpmuPublicParms, tpmuPublicId, tpmuSensitiveComposite, tpmuSignature, tpmuAttest};
+ghost use Rattle.schemes.specs.Parts.{tpmuHaParts, tpmuAsymSchemeParts, tpmuSigSchemeParts, tpmuKeyedhashSchemeParts, tpmuKdfSchemeParts, tpmuSymKeyBitsParts, tpmuSymModeParts};
+ghost use Rattle.keys.specs.Parts.{tpmuPublicParmsParts, tpmuPublicIdParts, tpmuSensitiveCompositeParts, tpmuSignatureParts};
+ghost use Rattle.attest.specs.Parts.{tpmuAttestParts};
 ghost use Rattle.plans.specs.Steps.{Room, Adds};
 ghost use Rattle.flat.specs.Lists.{attestedLists};
 
@@ -48,7 +48,7 @@ ghost use Rattle.flat.specs.Lists.{attestedLists};
 // TPMU_HA
 pub fn ha(p: Plan, tag: TpmAlgId, x: TpmuHa) -> Plan
     requires { ⌜ Room 2 p ⌝ }
-    ensures { λ r. ⌜ Adds (haBy (tag .0)) (digestParts x) [] 2 p r ⌝ }
+    ensures { λ r. ⌜ Adds (tpmuHa (tag .0)) (tpmuHaParts x) [] 2 p r ⌝ }
 {
     let chosen = tag.digest_arm();
     let q = p.due(tag.0, chosen, x.matches_tag(tag));
@@ -61,7 +61,7 @@ pub fn ha(p: Plan, tag: TpmAlgId, x: TpmuHa) -> Plan
 // TPMU_ASYM_SCHEME
 pub fn asym_scheme(p: Plan, tag: TpmAlgId, x: TpmuAsymScheme) -> Plan
     requires { ⌜ Room 2 p ⌝ }
-    ensures { λ r. ⌜ Adds (asymBy (tag .0)) (asymParts x) [] 2 p r ⌝ }
+    ensures { λ r. ⌜ Adds (tpmuAsymScheme (tag .0)) (tpmuAsymSchemeParts x) [] 2 p r ⌝ }
 {
     let q = p.due(tag.0, tag.asym_arm(), x.matches_tag(tag));
     match x {
@@ -73,7 +73,7 @@ pub fn asym_scheme(p: Plan, tag: TpmAlgId, x: TpmuAsymScheme) -> Plan
 // TPMU_SIG_SCHEME
 pub fn sig_scheme(p: Plan, tag: TpmAlgId, x: TpmuSigScheme) -> Plan
     requires { ⌜ Room 2 p ⌝ }
-    ensures { λ r. ⌜ Adds (sigBy (tag .0)) (sigParts x) [] 2 p r ⌝ }
+    ensures { λ r. ⌜ Adds (tpmuSigScheme (tag .0)) (tpmuSigSchemeParts x) [] 2 p r ⌝ }
 {
     let q = p.due(tag.0, tag.sig_arm(), x.matches_tag(tag));
     match x {
@@ -86,7 +86,7 @@ pub fn sig_scheme(p: Plan, tag: TpmAlgId, x: TpmuSigScheme) -> Plan
 // TPMU_SCHEME_KEYEDHASH
 pub fn keyedhash_scheme(p: Plan, tag: TpmAlgId, x: TpmuKeyedhashScheme) -> Plan
     requires { ⌜ Room 3 p ⌝ }
-    ensures { λ r. ⌜ Adds (keyedhashBy (tag .0)) (keyedhashParts x) [] 3 p r ⌝ }
+    ensures { λ r. ⌜ Adds (tpmuKeyedhashScheme (tag .0)) (tpmuKeyedhashSchemeParts x) [] 3 p r ⌝ }
 {
     let q = p.due(tag.0, tag.keyedhash_arm(), x.matches_tag(tag));
     match x {
@@ -99,7 +99,7 @@ pub fn keyedhash_scheme(p: Plan, tag: TpmAlgId, x: TpmuKeyedhashScheme) -> Plan
 // TPMU_KDF_SCHEME
 pub fn kdf_scheme(p: Plan, tag: TpmAlgId, x: TpmuKdfScheme) -> Plan
     requires { ⌜ Room 2 p ⌝ }
-    ensures { λ r. ⌜ Adds (kdfBy (tag .0)) (kdfParts x) [] 2 p r ⌝ }
+    ensures { λ r. ⌜ Adds (tpmuKdfScheme (tag .0)) (tpmuKdfSchemeParts x) [] 2 p r ⌝ }
 {
     let q = p.due(tag.0, tag.kdf_arm(), x.matches_tag(tag));
     match x {
@@ -114,7 +114,7 @@ pub fn kdf_scheme(p: Plan, tag: TpmAlgId, x: TpmuKdfScheme) -> Plan
 // TPMU_SYM_KEY_BITS
 pub fn sym_key_bits(p: Plan, tag: TpmAlgId, x: TpmuSymKeyBits) -> Plan
     requires { ⌜ Room 2 p ⌝ }
-    ensures { λ r. ⌜ Adds (keyBitsBy (tag .0)) (keyBitsParts x) [] 2 p r ⌝ }
+    ensures { λ r. ⌜ Adds (tpmuSymKeyBits (tag .0)) (tpmuSymKeyBitsParts x) [] 2 p r ⌝ }
 {
     let q = p.due(tag.0, tag.cipher_arm(), x.matches_tag(tag));
     match x {
@@ -129,7 +129,7 @@ pub fn sym_key_bits(p: Plan, tag: TpmAlgId, x: TpmuSymKeyBits) -> Plan
 // TPMU_SYM_MODE
 pub fn sym_mode(p: Plan, tag: TpmAlgId, x: TpmuSymMode) -> Plan
     requires { ⌜ Room 2 p ⌝ }
-    ensures { λ r. ⌜ Adds (modeBy (tag .0)) (modeParts x) [] 2 p r ⌝ }
+    ensures { λ r. ⌜ Adds (tpmuSymMode (tag .0)) (tpmuSymModeParts x) [] 2 p r ⌝ }
 {
     let q = p.due(tag.0, tag.cipher_arm(), x.matches_tag(tag));
     match x {
@@ -146,7 +146,7 @@ pub fn sym_mode(p: Plan, tag: TpmAlgId, x: TpmuSymMode) -> Plan
 // TPMU_PUBLIC_PARMS
 pub fn public_parms(p: Plan, tag: TpmAlgId, x: TpmuPublicParms) -> Plan
     requires { ⌜ Room 13 p ⌝ }
-    ensures { λ r. ⌜ Adds (parmsBy (tag .0)) (parmsParts x) [] 13 p r ⌝ }
+    ensures { λ r. ⌜ Adds (tpmuPublicParms (tag .0)) (tpmuPublicParmsParts x) [] 13 p r ⌝ }
 {
     let q = p.due(tag.0, tag.type_arm(), x.matches_tag(tag));
     match x {
@@ -161,7 +161,7 @@ pub fn public_parms(p: Plan, tag: TpmAlgId, x: TpmuPublicParms) -> Plan
 // TPMU_PUBLIC_ID
 pub fn public_id(p: Plan, tag: TpmAlgId, x: TpmuPublicId) -> Plan
     requires { ⌜ Room 3 p ⌝ }
-    ensures { λ r. ⌜ Adds (uniqueBy (tag .0)) (uniqueParts x) [] 3 p r ⌝ }
+    ensures { λ r. ⌜ Adds (tpmuPublicId (tag .0)) (tpmuPublicIdParts x) [] 3 p r ⌝ }
 {
     let q = p.due(tag.0, tag.type_arm(), x.matches_tag(tag));
     match x {
@@ -176,7 +176,7 @@ pub fn public_id(p: Plan, tag: TpmAlgId, x: TpmuPublicId) -> Plan
 // TPMU_SENSITIVE_COMPOSITE
 pub fn sensitive_composite(p: Plan, tag: TpmAlgId, x: TpmuSensitiveComposite) -> Plan
     requires { ⌜ Room 2 p ⌝ }
-    ensures { λ r. ⌜ Adds (sensitiveBy (tag .0)) (compositeParts x) [] 2 p r ⌝ }
+    ensures { λ r. ⌜ Adds (tpmuSensitiveComposite (tag .0)) (tpmuSensitiveCompositeParts x) [] 2 p r ⌝ }
 {
     let q = p.due(tag.0, tag.sensitive_arm(), x.matches_tag(tag));
     match x {
@@ -190,7 +190,7 @@ pub fn sensitive_composite(p: Plan, tag: TpmAlgId, x: TpmuSensitiveComposite) ->
 // TPMU_SIGNATURE
 pub fn signature(p: Plan, tag: TpmAlgId, x: TpmuSignature) -> Plan
     requires { ⌜ Room 4 p ⌝ }
-    ensures { λ r. ⌜ Adds (signatureBy (tag .0)) (sigUnionParts x) [] 4 p r ⌝ }
+    ensures { λ r. ⌜ Adds (tpmuSignature (tag .0)) (tpmuSignatureParts x) [] 4 p r ⌝ }
 {
     let q = p.due(tag.0, tag.signature_arm(), x.matches_tag(tag));
     match x {
@@ -210,7 +210,7 @@ pub fn signature(p: Plan, tag: TpmAlgId, x: TpmuSignature) -> Plan
 // TPMU_ATTEST
 pub fn attest(p: Plan, tag: TpmSt, x: TpmuAttest) -> Plan
     requires { ⌜ Room 7 p ⌝ }
-    ensures { λ r. ⌜ Adds (attestBy (tag .0)) (attestedParts x) (attestedLists x) 7 p r ⌝ }
+    ensures { λ r. ⌜ Adds (tpmuAttest (tag .0)) (tpmuAttestParts x) (attestedLists x) 7 p r ⌝ }
 {
     let q = p.due(tag.0, tag.attest_arm(), x.matches_tag(tag));
     match x {

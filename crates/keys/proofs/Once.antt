@@ -13,59 +13,59 @@ use Rattle.keys.specs.declared.tpms.TpmsEccParms.{TpmsEccParms}
 use Rattle.keys.specs.declared.tpms.TpmsEccPoint.{TpmsEccPoint}
 use Rattle.keys.specs.declared.tpms.TpmsSignatureRsa.{TpmsSignatureRsa}
 use Rattle.keys.specs.declared.tpms.TpmsSignatureEcc.{TpmsSignatureEcc}
-use Rattle.keys.specs.declared.tpms.KeyedhashParmsRead.{KeyedhashParmsRead}
-use Rattle.keys.specs.declared.tpms.SymcipherParmsRead.{SymcipherParmsRead}
-use Rattle.keys.specs.declared.tpms.RsaParmsRead.{RsaParmsRead}
-use Rattle.keys.specs.declared.tpms.EccParmsRead.{EccParmsRead}
-use Rattle.keys.specs.declared.tpms.EccPointRead.{EccPointRead}
-use Rattle.keys.specs.declared.tpms.SignatureRsaRead.{SignatureRsaRead}
-use Rattle.keys.specs.declared.tpms.SignatureEccRead.{SignatureEccRead}
+use Rattle.keys.specs.declared.tpms.TpmsKeyedhashParmsRead.{TpmsKeyedhashParmsRead}
+use Rattle.keys.specs.declared.tpms.TpmsSymcipherParmsRead.{TpmsSymcipherParmsRead}
+use Rattle.keys.specs.declared.tpms.TpmsRsaParmsRead.{TpmsRsaParmsRead}
+use Rattle.keys.specs.declared.tpms.TpmsEccParmsRead.{TpmsEccParmsRead}
+use Rattle.keys.specs.declared.tpms.TpmsEccPointRead.{TpmsEccPointRead}
+use Rattle.keys.specs.declared.tpms.TpmsSignatureRsaRead.{TpmsSignatureRsaRead}
+use Rattle.keys.specs.declared.tpms.TpmsSignatureEccRead.{TpmsSignatureEccRead}
 use Rattle.keys.specs.declared.tpmu.TpmuPublicParms.{TpmuPublicParms}
 use Rattle.keys.specs.declared.tpmu.TpmuPublicId.{TpmuPublicId}
 use Rattle.keys.specs.declared.tpmu.TpmuSensitiveComposite.{TpmuSensitiveComposite}
 use Rattle.keys.specs.declared.tpmu.TpmuSignature.{TpmuSignature}
-use Rattle.keys.specs.declared.tpmu.PublicParmsArmRead.{PublicParmsArmRead}
-use Rattle.keys.specs.declared.tpmu.PublicIdRead.{PublicIdRead}
-use Rattle.keys.specs.declared.tpmu.SensitiveCompositeRead.{SensitiveCompositeRead}
-use Rattle.keys.specs.declared.tpmu.SignatureArmRead.{SignatureArmRead}
+use Rattle.keys.specs.declared.tpmu.TpmuPublicParmsRead.{TpmuPublicParmsRead}
+use Rattle.keys.specs.declared.tpmu.TpmuPublicIdRead.{TpmuPublicIdRead}
+use Rattle.keys.specs.declared.tpmu.TpmuSensitiveCompositeRead.{TpmuSensitiveCompositeRead}
+use Rattle.keys.specs.declared.tpmu.TpmuSignatureRead.{TpmuSignatureRead}
 use Rattle.keys.specs.declared.tpmt.TpmtPublicParms.{TpmtPublicParms}
 use Rattle.keys.specs.declared.tpmt.TpmtSignature.{TpmtSignature}
 use Rattle.keys.specs.declared.tpmt.TpmtPublic.{TpmtPublic}
 use Rattle.keys.specs.declared.tpmt.TpmtSensitive.{TpmtSensitive}
-use Rattle.keys.specs.declared.tpmt.PublicParmsRead.{PublicParmsRead}
-use Rattle.keys.specs.declared.tpmt.SignatureRead.{SignatureRead}
-use Rattle.keys.specs.declared.tpmt.PublicRead.{PublicRead}
-use Rattle.keys.specs.declared.tpmt.SensitiveRead.{SensitiveRead}
+use Rattle.keys.specs.declared.tpmt.TpmtPublicParmsRead.{TpmtPublicParmsRead}
+use Rattle.keys.specs.declared.tpmt.TpmtSignatureRead.{TpmtSignatureRead}
+use Rattle.keys.specs.declared.tpmt.TpmtPublicRead.{TpmtPublicRead}
+use Rattle.keys.specs.declared.tpmt.TpmtSensitiveRead.{TpmtSensitiveRead}
 use Rattle.keys.specs.declared.tpmt.TpmaObject.{TpmaObject}
-use Rattle.keys.specs.Parts.{keyedhashParmsParts, symcipherParmsParts, rsaParmsParts, eccParmsParts, eccPointParts, signatureRsaParts, signatureEccParts, parmsParts, uniqueParts, compositeParts, sigUnionParts, publicParmsParts, signatureParts, publicParts, sensitiveParts}
-use Rattle.keys.specs.Answers.{keyedhashParmsAnswer, symcipherParmsAnswer, rsaParmsAnswer, eccParmsAnswer, eccPointAnswer, signatureRsaAnswer, signatureEccAnswer, parmsAnswer, uniqueAnswer, compositeAnswer, sigUnionAnswer, publicParmsAnswer, signatureAnswer, publicAnswer, sensitiveAnswer}
+use Rattle.keys.specs.Parts.{tpmsKeyedhashParmsParts, tpmsSymcipherParmsParts, tpmsRsaParmsParts, tpmsEccParmsParts, tpmsEccPointParts, tpmsSignatureRsaParts, tpmsSignatureEccParts, tpmuPublicParmsParts, tpmuPublicIdParts, tpmuSensitiveCompositeParts, tpmuSignatureParts, tpmtPublicParmsParts, tpmtSignatureParts, tpmtPublicParts, tpmtSensitiveParts}
+use Rattle.keys.specs.Answers.{tpmsKeyedhashParmsAnswer, tpmsSymcipherParmsAnswer, tpmsRsaParmsAnswer, tpmsEccParmsAnswer, tpmsEccPointAnswer, tpmsSignatureRsaAnswer, tpmsSignatureEccAnswer, tpmuPublicParmsAnswer, tpmuPublicIdAnswer, tpmuSensitiveCompositeAnswer, tpmuSignatureAnswer, tpmtPublicParmsAnswer, tpmtSignatureAnswer, tpmtPublicAnswer, tpmtSensitiveAnswer}
 
 -- ---- structures
 
-pub keyedhash-parms-once : Once keyedhashParmsParts
+pub keyedhash-parms-once : Once tpmsKeyedhashParmsParts
 keyedhash-parms-once = fields (λ s. s .scheme) (λ a. record { scheme = a }) (λ s. refl) keyedhash-scheme-once
 
-pub symcipher-parms-once : Once symcipherParmsParts
+pub symcipher-parms-once : Once tpmsSymcipherParmsParts
 symcipher-parms-once = fields (λ s. s .sym) (λ a. record { sym = a }) (λ s. refl) sym-def-once
 
-pub rsa-parms-once : Once rsaParmsParts
+pub rsa-parms-once : Once tpmsRsaParmsParts
 rsa-parms-once = fields (λ s. (s .symmetric, (s .scheme, (s .«key_bits», s .exponent)))) (λ (a, (b, (c, d))). record { symmetric = a; scheme = b; «key_bits» = c; exponent = d }) (λ s. refl) (both sym-def-once (both rsa-scheme-once (both number-once number-once)))
 
-pub ecc-parms-once : Once eccParmsParts
+pub ecc-parms-once : Once tpmsEccParmsParts
 ecc-parms-once = fields (λ s. (s .symmetric, (s .scheme, (s .«curve_id», s .kdf)))) (λ (a, (b, (c, d))). record { symmetric = a; scheme = b; «curve_id» = c; kdf = d }) (λ s. refl) (both sym-def-once (both ecc-scheme-once (both curve-once kdf-scheme-once)))
 
-pub ecc-point-once : Once eccPointParts
+pub ecc-point-once : Once tpmsEccPointParts
 ecc-point-once = fields (λ s. (s .x, s .y)) (λ (a, b). record { x = a; y = b }) (λ s. refl) (both span-once span-once)
 
-pub signature-rsa-once : Once signatureRsaParts
+pub signature-rsa-once : Once tpmsSignatureRsaParts
 signature-rsa-once = fields (λ s. (s .hash, s .sig)) (λ (a, b). record { hash = a; sig = b }) (λ s. refl) (both alg-once span-once)
 
-pub signature-ecc-once : Once signatureEccParts
+pub signature-ecc-once : Once tpmsSignatureEccParts
 signature-ecc-once = fields (λ s. (s .hash, (s .«signature_r», s .«signature_s»))) (λ (a, (b, c)). record { hash = a; «signature_r» = b; «signature_s» = c }) (λ s. refl) (both alg-once (both span-once span-once))
 
 -- ---- unions
 
-pub parms-once : Once parmsParts
+pub parms-once : Once tpmuPublicParmsParts
 parms-once =
     union
     (holds keyedHash TpmuPublicParms.KeyedHash keyedhash-parms-once
@@ -82,7 +82,7 @@ parms-once =
       | TpmuPublicParms.Null ↦ refl
     ])
 
-pub unique-once : Once uniqueParts
+pub unique-once : Once tpmuPublicIdParts
 unique-once =
     union
     (holds keyedHash TpmuPublicId.KeyedHash span-once
@@ -99,7 +99,7 @@ unique-once =
       | TpmuPublicId.Null ↦ refl
     ])
 
-pub composite-once : Once compositeParts
+pub composite-once : Once tpmuSensitiveCompositeParts
 composite-once =
     union
     (holds rsa TpmuSensitiveComposite.Rsa span-once
@@ -114,7 +114,7 @@ composite-once =
       | TpmuSensitiveComposite.Sym x ↦ rw (span-once .back x qs)
     ])
 
-pub sig-union-once : Once sigUnionParts
+pub sig-union-once : Once tpmuSignatureParts
 sig-union-once =
     union
     (holds rsassa TpmuSignature.Rsassa signature-rsa-once
@@ -142,61 +142,61 @@ sig-union-once =
 pub attributes-once : Once (λ (a : TpmaObject). num (a .0) ∷ [])
 attributes-once = fields (λ a. a .0) (λ n. record { 0 = n }) (λ a. refl) number-once
 
-pub public-parms-once : Once publicParmsParts
+pub public-parms-once : Once tpmtPublicParmsParts
 public-parms-once = fields (λ s. (s .«object_type», s .parameters)) (λ (a, b). record { «object_type» = a; parameters = b }) (λ s. refl) (both alg-once parms-once)
 
-pub signature-once : Once signatureParts
-signature-once = fields (λ s. (s .«sig_alg», s .signature)) (λ (a, b). record { «sig_alg» = a; signature = b }) (λ s. refl) (both alg-once sig-union-once)
+pub signature-once : Once tpmtSignatureParts
+signature-once = fields (λ s. (s .«sig_alg», s .signature)) (λ (a, b). record { «sig_alg» = a; tpmtSignature = b }) (λ s. refl) (both alg-once sig-union-once)
 
-pub public-once : Once publicParts
+pub public-once : Once tpmtPublicParts
 public-once = fields (λ s. (s .«object_type», (s .«name_alg», (s .«object_attributes», (s .«auth_policy», (s .parameters, s .unique)))))) (λ (a, (b, (c, (d, (e, f))))). record { «object_type» = a; «name_alg» = b; «object_attributes» = c; «auth_policy» = d; parameters = e; unique = f }) (λ s. refl) (both alg-once (both alg-once (both attributes-once (both span-once (both parms-once unique-once)))))
 
-pub sensitive-once : Once sensitiveParts
-sensitive-once = fields (λ s. (s .«sensitive_type», (s .«auth_value», (s .«seed_value», s .sensitive)))) (λ (a, (b, (c, d))). record { «sensitive_type» = a; «auth_value» = b; «seed_value» = c; sensitive = d }) (λ s. refl) (both alg-once (both span-once (both span-once composite-once)))
+pub sensitive-once : Once tpmtSensitiveParts
+sensitive-once = fields (λ s. (s .«sensitive_type», (s .«auth_value», (s .«seed_value», s .sensitive)))) (λ (a, (b, (c, d))). record { «sensitive_type» = a; «auth_value» = b; «seed_value» = c; tpmtSensitive = d }) (λ s. refl) (both alg-once (both span-once (both span-once composite-once)))
 
 -- ---- answers
 
-pub keyedhash-parms-answer-once : Injective keyedhashParmsAnswer
-keyedhash-parms-answer-once = answers keyedhash-parms-once KeyedhashParmsRead.Found KeyedhashParmsRead.No keyedhashParmsAnswer (λ back. elim [ KeyedhashParmsRead.Found x e ↦ back x e | KeyedhashParmsRead.No f ↦ refl ])
+pub keyedhash-parms-answer-once : Injective tpmsKeyedhashParmsAnswer
+keyedhash-parms-answer-once = answers keyedhash-parms-once TpmsKeyedhashParmsRead.Found TpmsKeyedhashParmsRead.No tpmsKeyedhashParmsAnswer (λ back. elim [ TpmsKeyedhashParmsRead.Found x e ↦ back x e | TpmsKeyedhashParmsRead.No f ↦ refl ])
 
-pub symcipher-parms-answer-once : Injective symcipherParmsAnswer
-symcipher-parms-answer-once = answers symcipher-parms-once SymcipherParmsRead.Found SymcipherParmsRead.No symcipherParmsAnswer (λ back. elim [ SymcipherParmsRead.Found x e ↦ back x e | SymcipherParmsRead.No f ↦ refl ])
+pub symcipher-parms-answer-once : Injective tpmsSymcipherParmsAnswer
+symcipher-parms-answer-once = answers symcipher-parms-once TpmsSymcipherParmsRead.Found TpmsSymcipherParmsRead.No tpmsSymcipherParmsAnswer (λ back. elim [ TpmsSymcipherParmsRead.Found x e ↦ back x e | TpmsSymcipherParmsRead.No f ↦ refl ])
 
-pub rsa-parms-answer-once : Injective rsaParmsAnswer
-rsa-parms-answer-once = answers rsa-parms-once RsaParmsRead.Found RsaParmsRead.No rsaParmsAnswer (λ back. elim [ RsaParmsRead.Found x e ↦ back x e | RsaParmsRead.No f ↦ refl ])
+pub rsa-parms-answer-once : Injective tpmsRsaParmsAnswer
+rsa-parms-answer-once = answers rsa-parms-once TpmsRsaParmsRead.Found TpmsRsaParmsRead.No tpmsRsaParmsAnswer (λ back. elim [ TpmsRsaParmsRead.Found x e ↦ back x e | TpmsRsaParmsRead.No f ↦ refl ])
 
-pub ecc-parms-answer-once : Injective eccParmsAnswer
-ecc-parms-answer-once = answers ecc-parms-once EccParmsRead.Found EccParmsRead.No eccParmsAnswer (λ back. elim [ EccParmsRead.Found x e ↦ back x e | EccParmsRead.No f ↦ refl ])
+pub ecc-parms-answer-once : Injective tpmsEccParmsAnswer
+ecc-parms-answer-once = answers ecc-parms-once TpmsEccParmsRead.Found TpmsEccParmsRead.No tpmsEccParmsAnswer (λ back. elim [ TpmsEccParmsRead.Found x e ↦ back x e | TpmsEccParmsRead.No f ↦ refl ])
 
-pub ecc-point-answer-once : Injective eccPointAnswer
-ecc-point-answer-once = answers ecc-point-once EccPointRead.Found EccPointRead.No eccPointAnswer (λ back. elim [ EccPointRead.Found x e ↦ back x e | EccPointRead.No f ↦ refl ])
+pub ecc-point-answer-once : Injective tpmsEccPointAnswer
+ecc-point-answer-once = answers ecc-point-once TpmsEccPointRead.Found TpmsEccPointRead.No tpmsEccPointAnswer (λ back. elim [ TpmsEccPointRead.Found x e ↦ back x e | TpmsEccPointRead.No f ↦ refl ])
 
-pub signature-rsa-answer-once : Injective signatureRsaAnswer
-signature-rsa-answer-once = answers signature-rsa-once SignatureRsaRead.Found SignatureRsaRead.No signatureRsaAnswer (λ back. elim [ SignatureRsaRead.Found x e ↦ back x e | SignatureRsaRead.No f ↦ refl ])
+pub signature-rsa-answer-once : Injective tpmsSignatureRsaAnswer
+signature-rsa-answer-once = answers signature-rsa-once TpmsSignatureRsaRead.Found TpmsSignatureRsaRead.No tpmsSignatureRsaAnswer (λ back. elim [ TpmsSignatureRsaRead.Found x e ↦ back x e | TpmsSignatureRsaRead.No f ↦ refl ])
 
-pub signature-ecc-answer-once : Injective signatureEccAnswer
-signature-ecc-answer-once = answers signature-ecc-once SignatureEccRead.Found SignatureEccRead.No signatureEccAnswer (λ back. elim [ SignatureEccRead.Found x e ↦ back x e | SignatureEccRead.No f ↦ refl ])
+pub signature-ecc-answer-once : Injective tpmsSignatureEccAnswer
+signature-ecc-answer-once = answers signature-ecc-once TpmsSignatureEccRead.Found TpmsSignatureEccRead.No tpmsSignatureEccAnswer (λ back. elim [ TpmsSignatureEccRead.Found x e ↦ back x e | TpmsSignatureEccRead.No f ↦ refl ])
 
-pub parms-answer-once : Injective parmsAnswer
-parms-answer-once = answers parms-once PublicParmsArmRead.Found PublicParmsArmRead.No parmsAnswer (λ back. elim [ PublicParmsArmRead.Found x e ↦ back x e | PublicParmsArmRead.No f ↦ refl ])
+pub parms-answer-once : Injective tpmuPublicParmsAnswer
+parms-answer-once = answers parms-once TpmuPublicParmsRead.Found TpmuPublicParmsRead.No tpmuPublicParmsAnswer (λ back. elim [ TpmuPublicParmsRead.Found x e ↦ back x e | TpmuPublicParmsRead.No f ↦ refl ])
 
-pub unique-answer-once : Injective uniqueAnswer
-unique-answer-once = answers unique-once PublicIdRead.Found PublicIdRead.No uniqueAnswer (λ back. elim [ PublicIdRead.Found x e ↦ back x e | PublicIdRead.No f ↦ refl ])
+pub unique-answer-once : Injective tpmuPublicIdAnswer
+unique-answer-once = answers unique-once TpmuPublicIdRead.Found TpmuPublicIdRead.No tpmuPublicIdAnswer (λ back. elim [ TpmuPublicIdRead.Found x e ↦ back x e | TpmuPublicIdRead.No f ↦ refl ])
 
-pub composite-answer-once : Injective compositeAnswer
-composite-answer-once = answers composite-once SensitiveCompositeRead.Found SensitiveCompositeRead.No compositeAnswer (λ back. elim [ SensitiveCompositeRead.Found x e ↦ back x e | SensitiveCompositeRead.No f ↦ refl ])
+pub composite-answer-once : Injective tpmuSensitiveCompositeAnswer
+composite-answer-once = answers composite-once TpmuSensitiveCompositeRead.Found TpmuSensitiveCompositeRead.No tpmuSensitiveCompositeAnswer (λ back. elim [ TpmuSensitiveCompositeRead.Found x e ↦ back x e | TpmuSensitiveCompositeRead.No f ↦ refl ])
 
-pub sig-union-answer-once : Injective sigUnionAnswer
-sig-union-answer-once = answers sig-union-once SignatureArmRead.Found SignatureArmRead.No sigUnionAnswer (λ back. elim [ SignatureArmRead.Found x e ↦ back x e | SignatureArmRead.No f ↦ refl ])
+pub sig-union-answer-once : Injective tpmuSignatureAnswer
+sig-union-answer-once = answers sig-union-once TpmuSignatureRead.Found TpmuSignatureRead.No tpmuSignatureAnswer (λ back. elim [ TpmuSignatureRead.Found x e ↦ back x e | TpmuSignatureRead.No f ↦ refl ])
 
-pub public-parms-answer-once : Injective publicParmsAnswer
-public-parms-answer-once = answers public-parms-once PublicParmsRead.Found PublicParmsRead.No publicParmsAnswer (λ back. elim [ PublicParmsRead.Found x e ↦ back x e | PublicParmsRead.No f ↦ refl ])
+pub public-parms-answer-once : Injective tpmtPublicParmsAnswer
+public-parms-answer-once = answers public-parms-once TpmtPublicParmsRead.Found TpmtPublicParmsRead.No tpmtPublicParmsAnswer (λ back. elim [ TpmtPublicParmsRead.Found x e ↦ back x e | TpmtPublicParmsRead.No f ↦ refl ])
 
-pub signature-answer-once : Injective signatureAnswer
-signature-answer-once = answers signature-once SignatureRead.Found SignatureRead.No signatureAnswer (λ back. elim [ SignatureRead.Found x e ↦ back x e | SignatureRead.No f ↦ refl ])
+pub signature-answer-once : Injective tpmtSignatureAnswer
+signature-answer-once = answers signature-once TpmtSignatureRead.Found TpmtSignatureRead.No tpmtSignatureAnswer (λ back. elim [ TpmtSignatureRead.Found x e ↦ back x e | TpmtSignatureRead.No f ↦ refl ])
 
-pub public-answer-once : Injective publicAnswer
-public-answer-once = answers public-once PublicRead.Found PublicRead.No publicAnswer (λ back. elim [ PublicRead.Found x e ↦ back x e | PublicRead.No f ↦ refl ])
+pub public-answer-once : Injective tpmtPublicAnswer
+public-answer-once = answers public-once TpmtPublicRead.Found TpmtPublicRead.No tpmtPublicAnswer (λ back. elim [ TpmtPublicRead.Found x e ↦ back x e | TpmtPublicRead.No f ↦ refl ])
 
-pub sensitive-answer-once : Injective sensitiveAnswer
-sensitive-answer-once = answers sensitive-once SensitiveRead.Found SensitiveRead.No sensitiveAnswer (λ back. elim [ SensitiveRead.Found x e ↦ back x e | SensitiveRead.No f ↦ refl ])
+pub sensitive-answer-once : Injective tpmtSensitiveAnswer
+sensitive-answer-once = answers sensitive-once TpmtSensitiveRead.Found TpmtSensitiveRead.No tpmtSensitiveAnswer (λ back. elim [ TpmtSensitiveRead.Found x e ↦ back x e | TpmtSensitiveRead.No f ↦ refl ])

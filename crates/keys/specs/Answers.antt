@@ -1,78 +1,78 @@
 -- What the answers of the readers mean: the parts of the record that was found and the place where it ends, or the refusal. Assumes nothing.
 use Rattle.wire.specs.Reading.{Ans, refused, Parsed, parsed}
-use Rattle.keys.specs.declared.tpms.KeyedhashParmsRead.{KeyedhashParmsRead}
-use Rattle.keys.specs.declared.tpms.SymcipherParmsRead.{SymcipherParmsRead}
-use Rattle.keys.specs.declared.tpms.RsaParmsRead.{RsaParmsRead}
-use Rattle.keys.specs.declared.tpms.EccParmsRead.{EccParmsRead}
-use Rattle.keys.specs.declared.tpms.EccPointRead.{EccPointRead}
-use Rattle.keys.specs.declared.tpms.SignatureRsaRead.{SignatureRsaRead}
-use Rattle.keys.specs.declared.tpms.SignatureEccRead.{SignatureEccRead}
-use Rattle.keys.specs.declared.tpmu.PublicParmsArmRead.{PublicParmsArmRead}
-use Rattle.keys.specs.declared.tpmu.PublicIdRead.{PublicIdRead}
-use Rattle.keys.specs.declared.tpmu.SensitiveCompositeRead.{SensitiveCompositeRead}
-use Rattle.keys.specs.declared.tpmu.SignatureArmRead.{SignatureArmRead}
-use Rattle.keys.specs.declared.tpmt.PublicParmsRead.{PublicParmsRead}
-use Rattle.keys.specs.declared.tpmt.SignatureRead.{SignatureRead}
-use Rattle.keys.specs.declared.tpmt.PublicRead.{PublicRead}
-use Rattle.keys.specs.declared.tpmt.SensitiveRead.{SensitiveRead}
-use Rattle.keys.specs.Parts.{keyedhashParmsParts, symcipherParmsParts, rsaParmsParts, eccParmsParts, eccPointParts, signatureRsaParts, signatureEccParts, parmsParts, uniqueParts, compositeParts, sigUnionParts, publicParmsParts, signatureParts, publicParts, sensitiveParts}
+use Rattle.keys.specs.declared.tpms.TpmsKeyedhashParmsRead.{TpmsKeyedhashParmsRead}
+use Rattle.keys.specs.declared.tpms.TpmsSymcipherParmsRead.{TpmsSymcipherParmsRead}
+use Rattle.keys.specs.declared.tpms.TpmsRsaParmsRead.{TpmsRsaParmsRead}
+use Rattle.keys.specs.declared.tpms.TpmsEccParmsRead.{TpmsEccParmsRead}
+use Rattle.keys.specs.declared.tpms.TpmsEccPointRead.{TpmsEccPointRead}
+use Rattle.keys.specs.declared.tpms.TpmsSignatureRsaRead.{TpmsSignatureRsaRead}
+use Rattle.keys.specs.declared.tpms.TpmsSignatureEccRead.{TpmsSignatureEccRead}
+use Rattle.keys.specs.declared.tpmu.TpmuPublicParmsRead.{TpmuPublicParmsRead}
+use Rattle.keys.specs.declared.tpmu.TpmuPublicIdRead.{TpmuPublicIdRead}
+use Rattle.keys.specs.declared.tpmu.TpmuSensitiveCompositeRead.{TpmuSensitiveCompositeRead}
+use Rattle.keys.specs.declared.tpmu.TpmuSignatureRead.{TpmuSignatureRead}
+use Rattle.keys.specs.declared.tpmt.TpmtPublicParmsRead.{TpmtPublicParmsRead}
+use Rattle.keys.specs.declared.tpmt.TpmtSignatureRead.{TpmtSignatureRead}
+use Rattle.keys.specs.declared.tpmt.TpmtPublicRead.{TpmtPublicRead}
+use Rattle.keys.specs.declared.tpmt.TpmtSensitiveRead.{TpmtSensitiveRead}
+use Rattle.keys.specs.Parts.{tpmsKeyedhashParmsParts, tpmsSymcipherParmsParts, tpmsRsaParmsParts, tpmsEccParmsParts, tpmsEccPointParts, tpmsSignatureRsaParts, tpmsSignatureEccParts, tpmuPublicParmsParts, tpmuPublicIdParts, tpmuSensitiveCompositeParts, tpmuSignatureParts, tpmtPublicParmsParts, tpmtSignatureParts, tpmtPublicParts, tpmtSensitiveParts}
 
-abbrev pub keyedhashParmsAnswer : KeyedhashParmsRead → Ans Parsed
-keyedhashParmsAnswer (KeyedhashParmsRead.Found x e) = parsed (keyedhashParmsParts x) e
-keyedhashParmsAnswer (KeyedhashParmsRead.No f) = refused f
+abbrev pub tpmsKeyedhashParmsAnswer : TpmsKeyedhashParmsRead → Ans Parsed
+tpmsKeyedhashParmsAnswer (TpmsKeyedhashParmsRead.Found x e) = parsed (tpmsKeyedhashParmsParts x) e
+tpmsKeyedhashParmsAnswer (TpmsKeyedhashParmsRead.No f) = refused f
 
-abbrev pub symcipherParmsAnswer : SymcipherParmsRead → Ans Parsed
-symcipherParmsAnswer (SymcipherParmsRead.Found x e) = parsed (symcipherParmsParts x) e
-symcipherParmsAnswer (SymcipherParmsRead.No f) = refused f
+abbrev pub tpmsSymcipherParmsAnswer : TpmsSymcipherParmsRead → Ans Parsed
+tpmsSymcipherParmsAnswer (TpmsSymcipherParmsRead.Found x e) = parsed (tpmsSymcipherParmsParts x) e
+tpmsSymcipherParmsAnswer (TpmsSymcipherParmsRead.No f) = refused f
 
-abbrev pub rsaParmsAnswer : RsaParmsRead → Ans Parsed
-rsaParmsAnswer (RsaParmsRead.Found x e) = parsed (rsaParmsParts x) e
-rsaParmsAnswer (RsaParmsRead.No f) = refused f
+abbrev pub tpmsRsaParmsAnswer : TpmsRsaParmsRead → Ans Parsed
+tpmsRsaParmsAnswer (TpmsRsaParmsRead.Found x e) = parsed (tpmsRsaParmsParts x) e
+tpmsRsaParmsAnswer (TpmsRsaParmsRead.No f) = refused f
 
-abbrev pub eccParmsAnswer : EccParmsRead → Ans Parsed
-eccParmsAnswer (EccParmsRead.Found x e) = parsed (eccParmsParts x) e
-eccParmsAnswer (EccParmsRead.No f) = refused f
+abbrev pub tpmsEccParmsAnswer : TpmsEccParmsRead → Ans Parsed
+tpmsEccParmsAnswer (TpmsEccParmsRead.Found x e) = parsed (tpmsEccParmsParts x) e
+tpmsEccParmsAnswer (TpmsEccParmsRead.No f) = refused f
 
-abbrev pub eccPointAnswer : EccPointRead → Ans Parsed
-eccPointAnswer (EccPointRead.Found x e) = parsed (eccPointParts x) e
-eccPointAnswer (EccPointRead.No f) = refused f
+abbrev pub tpmsEccPointAnswer : TpmsEccPointRead → Ans Parsed
+tpmsEccPointAnswer (TpmsEccPointRead.Found x e) = parsed (tpmsEccPointParts x) e
+tpmsEccPointAnswer (TpmsEccPointRead.No f) = refused f
 
-abbrev pub signatureRsaAnswer : SignatureRsaRead → Ans Parsed
-signatureRsaAnswer (SignatureRsaRead.Found x e) = parsed (signatureRsaParts x) e
-signatureRsaAnswer (SignatureRsaRead.No f) = refused f
+abbrev pub tpmsSignatureRsaAnswer : TpmsSignatureRsaRead → Ans Parsed
+tpmsSignatureRsaAnswer (TpmsSignatureRsaRead.Found x e) = parsed (tpmsSignatureRsaParts x) e
+tpmsSignatureRsaAnswer (TpmsSignatureRsaRead.No f) = refused f
 
-abbrev pub signatureEccAnswer : SignatureEccRead → Ans Parsed
-signatureEccAnswer (SignatureEccRead.Found x e) = parsed (signatureEccParts x) e
-signatureEccAnswer (SignatureEccRead.No f) = refused f
+abbrev pub tpmsSignatureEccAnswer : TpmsSignatureEccRead → Ans Parsed
+tpmsSignatureEccAnswer (TpmsSignatureEccRead.Found x e) = parsed (tpmsSignatureEccParts x) e
+tpmsSignatureEccAnswer (TpmsSignatureEccRead.No f) = refused f
 
-abbrev pub parmsAnswer : PublicParmsArmRead → Ans Parsed
-parmsAnswer (PublicParmsArmRead.Found x e) = parsed (parmsParts x) e
-parmsAnswer (PublicParmsArmRead.No f) = refused f
+abbrev pub tpmuPublicParmsAnswer : TpmuPublicParmsRead → Ans Parsed
+tpmuPublicParmsAnswer (TpmuPublicParmsRead.Found x e) = parsed (tpmuPublicParmsParts x) e
+tpmuPublicParmsAnswer (TpmuPublicParmsRead.No f) = refused f
 
-abbrev pub uniqueAnswer : PublicIdRead → Ans Parsed
-uniqueAnswer (PublicIdRead.Found x e) = parsed (uniqueParts x) e
-uniqueAnswer (PublicIdRead.No f) = refused f
+abbrev pub tpmuPublicIdAnswer : TpmuPublicIdRead → Ans Parsed
+tpmuPublicIdAnswer (TpmuPublicIdRead.Found x e) = parsed (tpmuPublicIdParts x) e
+tpmuPublicIdAnswer (TpmuPublicIdRead.No f) = refused f
 
-abbrev pub compositeAnswer : SensitiveCompositeRead → Ans Parsed
-compositeAnswer (SensitiveCompositeRead.Found x e) = parsed (compositeParts x) e
-compositeAnswer (SensitiveCompositeRead.No f) = refused f
+abbrev pub tpmuSensitiveCompositeAnswer : TpmuSensitiveCompositeRead → Ans Parsed
+tpmuSensitiveCompositeAnswer (TpmuSensitiveCompositeRead.Found x e) = parsed (tpmuSensitiveCompositeParts x) e
+tpmuSensitiveCompositeAnswer (TpmuSensitiveCompositeRead.No f) = refused f
 
-abbrev pub sigUnionAnswer : SignatureArmRead → Ans Parsed
-sigUnionAnswer (SignatureArmRead.Found x e) = parsed (sigUnionParts x) e
-sigUnionAnswer (SignatureArmRead.No f) = refused f
+abbrev pub tpmuSignatureAnswer : TpmuSignatureRead → Ans Parsed
+tpmuSignatureAnswer (TpmuSignatureRead.Found x e) = parsed (tpmuSignatureParts x) e
+tpmuSignatureAnswer (TpmuSignatureRead.No f) = refused f
 
-abbrev pub publicParmsAnswer : PublicParmsRead → Ans Parsed
-publicParmsAnswer (PublicParmsRead.Found x e) = parsed (publicParmsParts x) e
-publicParmsAnswer (PublicParmsRead.No f) = refused f
+abbrev pub tpmtPublicParmsAnswer : TpmtPublicParmsRead → Ans Parsed
+tpmtPublicParmsAnswer (TpmtPublicParmsRead.Found x e) = parsed (tpmtPublicParmsParts x) e
+tpmtPublicParmsAnswer (TpmtPublicParmsRead.No f) = refused f
 
-abbrev pub signatureAnswer : SignatureRead → Ans Parsed
-signatureAnswer (SignatureRead.Found x e) = parsed (signatureParts x) e
-signatureAnswer (SignatureRead.No f) = refused f
+abbrev pub tpmtSignatureAnswer : TpmtSignatureRead → Ans Parsed
+tpmtSignatureAnswer (TpmtSignatureRead.Found x e) = parsed (tpmtSignatureParts x) e
+tpmtSignatureAnswer (TpmtSignatureRead.No f) = refused f
 
-abbrev pub publicAnswer : PublicRead → Ans Parsed
-publicAnswer (PublicRead.Found x e) = parsed (publicParts x) e
-publicAnswer (PublicRead.No f) = refused f
+abbrev pub tpmtPublicAnswer : TpmtPublicRead → Ans Parsed
+tpmtPublicAnswer (TpmtPublicRead.Found x e) = parsed (tpmtPublicParts x) e
+tpmtPublicAnswer (TpmtPublicRead.No f) = refused f
 
-abbrev pub sensitiveAnswer : SensitiveRead → Ans Parsed
-sensitiveAnswer (SensitiveRead.Found x e) = parsed (sensitiveParts x) e
-sensitiveAnswer (SensitiveRead.No f) = refused f
+abbrev pub tpmtSensitiveAnswer : TpmtSensitiveRead → Ans Parsed
+tpmtSensitiveAnswer (TpmtSensitiveRead.Found x e) = parsed (tpmtSensitiveParts x) e
+tpmtSensitiveAnswer (TpmtSensitiveRead.No f) = refused f

@@ -1,23 +1,23 @@
 // The structures of keys and signatures.
-use kinds::codes::AlgRead;
-use kinds::codes::CurveRead;
 use kinds::codes::TpmAlgId;
+use kinds::codes::TpmAlgIdRead;
 use kinds::codes::TpmEccCurve;
+use kinds::codes::TpmEccCurveRead;
 use kinds::limits;
 use kinds::uint::Uint16Read;
 use kinds::uint::Uint32Read;
 use kinds::uint::uint16;
 use kinds::uint::uint32;
-use schemes::tpmt::EccSchemeRead;
-use schemes::tpmt::KdfSchemeRead;
-use schemes::tpmt::KeyedhashSchemeRead;
-use schemes::tpmt::RsaSchemeRead;
-use schemes::tpmt::SymDefRead;
 use schemes::tpmt::TpmtEccScheme;
+use schemes::tpmt::TpmtEccSchemeRead;
 use schemes::tpmt::TpmtKdfScheme;
+use schemes::tpmt::TpmtKdfSchemeRead;
 use schemes::tpmt::TpmtKeyedhashScheme;
+use schemes::tpmt::TpmtKeyedhashSchemeRead;
 use schemes::tpmt::TpmtRsaScheme;
+use schemes::tpmt::TpmtRsaSchemeRead;
 use schemes::tpmt::TpmtSymDef;
+use schemes::tpmt::TpmtSymDefRead;
 use wire::fault::Refusal;
 use wire::read::SpanRead;
 use wire::read::buffer;
@@ -25,8 +25,8 @@ use wire::span::Span;
 use wire::width::Width;
 ghost use mathlib.Core.Path.{_≡_};
 ghost use Rattle.wire.specs.Reading.{read};
-ghost use Rattle.kinds.specs.Kinds.{symDef, keyedhashScheme, rsaParms, eccParms, eccPoint, signatureRsa, signatureEcc};
-ghost use Rattle.keys.specs.Answers.{keyedhashParmsAnswer, symcipherParmsAnswer, rsaParmsAnswer, eccParmsAnswer, eccPointAnswer, signatureRsaAnswer, signatureEccAnswer};
+ghost use Rattle.kinds.specs.Kinds.{tpmtSymDef, tpmtKeyedhashScheme, tpmsRsaParms, tpmsEccParms, tpmsEccPoint, tpmsSignatureRsa, tpmsSignatureEcc};
+ghost use Rattle.keys.specs.Answers.{tpmsKeyedhashParmsAnswer, tpmsSymcipherParmsAnswer, tpmsRsaParmsAnswer, tpmsEccParmsAnswer, tpmsEccPointAnswer, tpmsSignatureRsaAnswer, tpmsSignatureEccAnswer};
 
 pub struct TpmsKeyedhashParms {
     pub scheme: TpmtKeyedhashScheme,
@@ -66,110 +66,110 @@ pub struct TpmsSignatureEcc {
     pub signature_s: Span,
 }
 
-pub enum KeyedhashParmsRead {
+pub enum TpmsKeyedhashParmsRead {
     Found(TpmsKeyedhashParms, usize),
     No(Refusal),
 }
 
-pub enum SymcipherParmsRead {
+pub enum TpmsSymcipherParmsRead {
     Found(TpmsSymcipherParms, usize),
     No(Refusal),
 }
 
-pub enum RsaParmsRead {
+pub enum TpmsRsaParmsRead {
     Found(TpmsRsaParms, usize),
     No(Refusal),
 }
 
-pub enum EccParmsRead {
+pub enum TpmsEccParmsRead {
     Found(TpmsEccParms, usize),
     No(Refusal),
 }
 
-pub enum EccPointRead {
+pub enum TpmsEccPointRead {
     Found(TpmsEccPoint, usize),
     No(Refusal),
 }
 
-pub enum SignatureRsaRead {
+pub enum TpmsSignatureRsaRead {
     Found(TpmsSignatureRsa, usize),
     No(Refusal),
 }
 
-pub enum SignatureEccRead {
+pub enum TpmsSignatureEccRead {
     Found(TpmsSignatureEcc, usize),
     No(Refusal),
 }
 
 impl TpmsKeyedhashParms {
     // TPMS_KEYEDHASH_PARMS, read.
-    pub fn unmarshal(s: &[u8], at: usize) -> KeyedhashParmsRead
-        ensures { λ r. ⌜ keyedhashParmsAnswer r ≡ read keyedhashScheme (now (s .entry)) at ⌝ }
+    pub fn unmarshal(s: &[u8], at: usize) -> TpmsKeyedhashParmsRead
+        ensures { λ r. ⌜ tpmsKeyedhashParmsAnswer r ≡ read tpmtKeyedhashScheme (now (s .entry)) at ⌝ }
     {
         let mut end = at;
         let scheme = match TpmtKeyedhashScheme::unmarshal(s, end) {
-            KeyedhashSchemeRead::Found(v, e) => {
+            TpmtKeyedhashSchemeRead::Found(v, e) => {
                 end = e;
                 v
             }
-            KeyedhashSchemeRead::No(f) => return KeyedhashParmsRead::No(f),
+            TpmtKeyedhashSchemeRead::No(f) => return TpmsKeyedhashParmsRead::No(f),
         };
-        KeyedhashParmsRead::Found(TpmsKeyedhashParms { scheme: scheme }, end)
+        TpmsKeyedhashParmsRead::Found(TpmsKeyedhashParms { scheme: scheme }, end)
     }
 }
 
 impl TpmsSymcipherParms {
     // TPMS_SYMCIPHER_PARMS, read.
-    pub fn unmarshal(s: &[u8], at: usize) -> SymcipherParmsRead
-        ensures { λ r. ⌜ symcipherParmsAnswer r ≡ read symDef (now (s .entry)) at ⌝ }
+    pub fn unmarshal(s: &[u8], at: usize) -> TpmsSymcipherParmsRead
+        ensures { λ r. ⌜ tpmsSymcipherParmsAnswer r ≡ read tpmtSymDef (now (s .entry)) at ⌝ }
     {
         let mut end = at;
         let sym = match TpmtSymDef::unmarshal(s, end) {
-            SymDefRead::Found(v, e) => {
+            TpmtSymDefRead::Found(v, e) => {
                 end = e;
                 v
             }
-            SymDefRead::No(f) => return SymcipherParmsRead::No(f),
+            TpmtSymDefRead::No(f) => return TpmsSymcipherParmsRead::No(f),
         };
-        SymcipherParmsRead::Found(TpmsSymcipherParms { sym: sym }, end)
+        TpmsSymcipherParmsRead::Found(TpmsSymcipherParms { sym: sym }, end)
     }
 }
 
 impl TpmsRsaParms {
     // TPMS_RSA_PARMS, read.
-    pub fn unmarshal(s: &[u8], at: usize) -> RsaParmsRead
-        ensures { λ r. ⌜ rsaParmsAnswer r ≡ read rsaParms (now (s .entry)) at ⌝ }
+    pub fn unmarshal(s: &[u8], at: usize) -> TpmsRsaParmsRead
+        ensures { λ r. ⌜ tpmsRsaParmsAnswer r ≡ read tpmsRsaParms (now (s .entry)) at ⌝ }
     {
         let mut end = at;
         let symmetric = match TpmtSymDef::unmarshal(s, end) {
-            SymDefRead::Found(v, e) => {
+            TpmtSymDefRead::Found(v, e) => {
                 end = e;
                 v
             }
-            SymDefRead::No(f) => return RsaParmsRead::No(f),
+            TpmtSymDefRead::No(f) => return TpmsRsaParmsRead::No(f),
         };
         let scheme = match TpmtRsaScheme::unmarshal(s, end) {
-            RsaSchemeRead::Found(v, e) => {
+            TpmtRsaSchemeRead::Found(v, e) => {
                 end = e;
                 v
             }
-            RsaSchemeRead::No(f) => return RsaParmsRead::No(f),
+            TpmtRsaSchemeRead::No(f) => return TpmsRsaParmsRead::No(f),
         };
         let key_bits = match uint16(s, end) {
             Uint16Read::Found(v, e) => {
                 end = e;
                 v
             }
-            Uint16Read::No(f) => return RsaParmsRead::No(f),
+            Uint16Read::No(f) => return TpmsRsaParmsRead::No(f),
         };
         let exponent = match uint32(s, end) {
             Uint32Read::Found(v, e) => {
                 end = e;
                 v
             }
-            Uint32Read::No(f) => return RsaParmsRead::No(f),
+            Uint32Read::No(f) => return TpmsRsaParmsRead::No(f),
         };
-        RsaParmsRead::Found(
+        TpmsRsaParmsRead::Found(
             TpmsRsaParms {
                 symmetric: symmetric,
                 scheme: scheme,
@@ -183,39 +183,39 @@ impl TpmsRsaParms {
 
 impl TpmsEccParms {
     // TPMS_ECC_PARMS, read.
-    pub fn unmarshal(s: &[u8], at: usize) -> EccParmsRead
-        ensures { λ r. ⌜ eccParmsAnswer r ≡ read eccParms (now (s .entry)) at ⌝ }
+    pub fn unmarshal(s: &[u8], at: usize) -> TpmsEccParmsRead
+        ensures { λ r. ⌜ tpmsEccParmsAnswer r ≡ read tpmsEccParms (now (s .entry)) at ⌝ }
     {
         let mut end = at;
         let symmetric = match TpmtSymDef::unmarshal(s, end) {
-            SymDefRead::Found(v, e) => {
+            TpmtSymDefRead::Found(v, e) => {
                 end = e;
                 v
             }
-            SymDefRead::No(f) => return EccParmsRead::No(f),
+            TpmtSymDefRead::No(f) => return TpmsEccParmsRead::No(f),
         };
         let scheme = match TpmtEccScheme::unmarshal(s, end) {
-            EccSchemeRead::Found(v, e) => {
+            TpmtEccSchemeRead::Found(v, e) => {
                 end = e;
                 v
             }
-            EccSchemeRead::No(f) => return EccParmsRead::No(f),
+            TpmtEccSchemeRead::No(f) => return TpmsEccParmsRead::No(f),
         };
         let curve_id = match TpmEccCurve::unmarshal(s, end) {
-            CurveRead::Found(v, e) => {
+            TpmEccCurveRead::Found(v, e) => {
                 end = e;
                 v
             }
-            CurveRead::No(f) => return EccParmsRead::No(f),
+            TpmEccCurveRead::No(f) => return TpmsEccParmsRead::No(f),
         };
         let kdf = match TpmtKdfScheme::unmarshal(s, end) {
-            KdfSchemeRead::Found(v, e) => {
+            TpmtKdfSchemeRead::Found(v, e) => {
                 end = e;
                 v
             }
-            KdfSchemeRead::No(f) => return EccParmsRead::No(f),
+            TpmtKdfSchemeRead::No(f) => return TpmsEccParmsRead::No(f),
         };
-        EccParmsRead::Found(
+        TpmsEccParmsRead::Found(
             TpmsEccParms {
                 symmetric: symmetric,
                 scheme: scheme,
@@ -229,8 +229,8 @@ impl TpmsEccParms {
 
 impl TpmsEccPoint {
     // TPMS_ECC_POINT, read.
-    pub fn unmarshal(s: &[u8], at: usize) -> EccPointRead
-        ensures { λ r. ⌜ eccPointAnswer r ≡ read eccPoint (now (s .entry)) at ⌝ }
+    pub fn unmarshal(s: &[u8], at: usize) -> TpmsEccPointRead
+        ensures { λ r. ⌜ tpmsEccPointAnswer r ≡ read tpmsEccPoint (now (s .entry)) at ⌝ }
     {
         let mut end = at;
         let x = match buffer(s, end, Width::Two, limits::MAX_ECC_KEY_BYTES) {
@@ -238,40 +238,40 @@ impl TpmsEccPoint {
                 end = e;
                 v
             }
-            SpanRead::No(f) => return EccPointRead::No(f),
+            SpanRead::No(f) => return TpmsEccPointRead::No(f),
         };
         let y = match buffer(s, end, Width::Two, limits::MAX_ECC_KEY_BYTES) {
             SpanRead::Found(v, e) => {
                 end = e;
                 v
             }
-            SpanRead::No(f) => return EccPointRead::No(f),
+            SpanRead::No(f) => return TpmsEccPointRead::No(f),
         };
-        EccPointRead::Found(TpmsEccPoint { x: x, y: y }, end)
+        TpmsEccPointRead::Found(TpmsEccPoint { x: x, y: y }, end)
     }
 }
 
 impl TpmsSignatureRsa {
     // TPMS_SIGNATURE_RSA, read.
-    pub fn unmarshal(s: &[u8], at: usize) -> SignatureRsaRead
-        ensures { λ r. ⌜ signatureRsaAnswer r ≡ read signatureRsa (now (s .entry)) at ⌝ }
+    pub fn unmarshal(s: &[u8], at: usize) -> TpmsSignatureRsaRead
+        ensures { λ r. ⌜ tpmsSignatureRsaAnswer r ≡ read tpmsSignatureRsa (now (s .entry)) at ⌝ }
     {
         let mut end = at;
         let hash = match TpmAlgId::unmarshal(s, end) {
-            AlgRead::Found(v, e) => {
+            TpmAlgIdRead::Found(v, e) => {
                 end = e;
                 v
             }
-            AlgRead::No(f) => return SignatureRsaRead::No(f),
+            TpmAlgIdRead::No(f) => return TpmsSignatureRsaRead::No(f),
         };
         let sig = match buffer(s, end, Width::Two, limits::MAX_RSA_KEY_BYTES) {
             SpanRead::Found(v, e) => {
                 end = e;
                 v
             }
-            SpanRead::No(f) => return SignatureRsaRead::No(f),
+            SpanRead::No(f) => return TpmsSignatureRsaRead::No(f),
         };
-        SignatureRsaRead::Found(
+        TpmsSignatureRsaRead::Found(
             TpmsSignatureRsa {
                 hash: hash,
                 sig: sig,
@@ -283,32 +283,32 @@ impl TpmsSignatureRsa {
 
 impl TpmsSignatureEcc {
     // TPMS_SIGNATURE_ECC, read.
-    pub fn unmarshal(s: &[u8], at: usize) -> SignatureEccRead
-        ensures { λ r. ⌜ signatureEccAnswer r ≡ read signatureEcc (now (s .entry)) at ⌝ }
+    pub fn unmarshal(s: &[u8], at: usize) -> TpmsSignatureEccRead
+        ensures { λ r. ⌜ tpmsSignatureEccAnswer r ≡ read tpmsSignatureEcc (now (s .entry)) at ⌝ }
     {
         let mut end = at;
         let hash = match TpmAlgId::unmarshal(s, end) {
-            AlgRead::Found(v, e) => {
+            TpmAlgIdRead::Found(v, e) => {
                 end = e;
                 v
             }
-            AlgRead::No(f) => return SignatureEccRead::No(f),
+            TpmAlgIdRead::No(f) => return TpmsSignatureEccRead::No(f),
         };
         let signature_r = match buffer(s, end, Width::Two, limits::MAX_ECC_KEY_BYTES) {
             SpanRead::Found(v, e) => {
                 end = e;
                 v
             }
-            SpanRead::No(f) => return SignatureEccRead::No(f),
+            SpanRead::No(f) => return TpmsSignatureEccRead::No(f),
         };
         let signature_s = match buffer(s, end, Width::Two, limits::MAX_ECC_KEY_BYTES) {
             SpanRead::Found(v, e) => {
                 end = e;
                 v
             }
-            SpanRead::No(f) => return SignatureEccRead::No(f),
+            SpanRead::No(f) => return TpmsSignatureEccRead::No(f),
         };
-        SignatureEccRead::Found(
+        TpmsSignatureEccRead::Found(
             TpmsSignatureEcc {
                 hash: hash,
                 signature_r: signature_r,

@@ -1,14 +1,14 @@
 // Kinds 9 to 12: parameters, signatures, public and sensitive areas.
-use crate::tpmu::PublicIdRead;
-use crate::tpmu::PublicParmsArmRead;
-use crate::tpmu::SensitiveCompositeRead;
-use crate::tpmu::SignatureArmRead;
 use crate::tpmu::TpmuPublicId;
+use crate::tpmu::TpmuPublicIdRead;
 use crate::tpmu::TpmuPublicParms;
+use crate::tpmu::TpmuPublicParmsRead;
 use crate::tpmu::TpmuSensitiveComposite;
+use crate::tpmu::TpmuSensitiveCompositeRead;
 use crate::tpmu::TpmuSignature;
-use kinds::codes::AlgRead;
+use crate::tpmu::TpmuSignatureRead;
 use kinds::codes::TpmAlgId;
+use kinds::codes::TpmAlgIdRead;
 use kinds::limits;
 use kinds::uint::Uint32Read;
 use kinds::uint::uint32;
@@ -22,8 +22,8 @@ ghost use mathlib.Core.List.{_∷_};
 ghost use Rattle.wire.specs.Answers.{spanPart};
 ghost use Rattle.wire.specs.Layout.{_then_};
 ghost use Rattle.wire.specs.Reading.{num, fronted, read};
-ghost use Rattle.kinds.specs.Kinds.{publicParms, signature, publicArea, sensitive, parmsBy, uniqueBy};
-ghost use Rattle.keys.specs.Answers.{publicParmsAnswer, signatureAnswer, publicAnswer, sensitiveAnswer};
+ghost use Rattle.kinds.specs.Kinds.{tpmtPublicParms, tpmtSignature, tpmtPublic, tpmtSensitive, tpmuPublicParms, tpmuPublicId};
+ghost use Rattle.keys.specs.Answers.{tpmtPublicParmsAnswer, tpmtSignatureAnswer, tpmtPublicAnswer, tpmtSensitiveAnswer};
 
 // The attributes of an object, as they stand.
 pub struct TpmaObject(pub u32);
@@ -54,47 +54,47 @@ pub struct TpmtSignature {
     pub signature: TpmuSignature,
 }
 
-pub enum PublicParmsRead {
+pub enum TpmtPublicParmsRead {
     Found(TpmtPublicParms, usize),
     No(Refusal),
 }
 
-pub enum SignatureRead {
+pub enum TpmtSignatureRead {
     Found(TpmtSignature, usize),
     No(Refusal),
 }
 
-pub enum PublicRead {
+pub enum TpmtPublicRead {
     Found(TpmtPublic, usize),
     No(Refusal),
 }
 
-pub enum SensitiveRead {
+pub enum TpmtSensitiveRead {
     Found(TpmtSensitive, usize),
     No(Refusal),
 }
 
 impl TpmtPublicParms {
     // Kind 9, TPMT_PUBLIC_PARMS, read.
-    pub fn unmarshal(s: &[u8], at: usize) -> PublicParmsRead
-        ensures { λ r. ⌜ publicParmsAnswer r ≡ read publicParms (now (s .entry)) at ⌝ }
+    pub fn unmarshal(s: &[u8], at: usize) -> TpmtPublicParmsRead
+        ensures { λ r. ⌜ tpmtPublicParmsAnswer r ≡ read tpmtPublicParms (now (s .entry)) at ⌝ }
     {
         let mut end = at;
         let object_type = match TpmAlgId::unmarshal(s, end) {
-            AlgRead::Found(v, e) => {
+            TpmAlgIdRead::Found(v, e) => {
                 end = e;
                 v
             }
-            AlgRead::No(f) => return PublicParmsRead::No(f),
+            TpmAlgIdRead::No(f) => return TpmtPublicParmsRead::No(f),
         };
         let parameters = match TpmuPublicParms::unmarshal_tagged(object_type, s, end) {
-            PublicParmsArmRead::Found(v, e) => {
+            TpmuPublicParmsRead::Found(v, e) => {
                 end = e;
                 v
             }
-            PublicParmsArmRead::No(f) => return PublicParmsRead::No(f),
+            TpmuPublicParmsRead::No(f) => return TpmtPublicParmsRead::No(f),
         };
-        PublicParmsRead::Found(
+        TpmtPublicParmsRead::Found(
             TpmtPublicParms {
                 object_type: object_type,
                 parameters: parameters,
@@ -106,25 +106,25 @@ impl TpmtPublicParms {
 
 impl TpmtSignature {
     // Kind 10, TPMT_SIGNATURE, read.
-    pub fn unmarshal(s: &[u8], at: usize) -> SignatureRead
-        ensures { λ r. ⌜ signatureAnswer r ≡ read signature (now (s .entry)) at ⌝ }
+    pub fn unmarshal(s: &[u8], at: usize) -> TpmtSignatureRead
+        ensures { λ r. ⌜ tpmtSignatureAnswer r ≡ read tpmtSignature (now (s .entry)) at ⌝ }
     {
         let mut end = at;
         let sig_alg = match TpmAlgId::unmarshal(s, end) {
-            AlgRead::Found(v, e) => {
+            TpmAlgIdRead::Found(v, e) => {
                 end = e;
                 v
             }
-            AlgRead::No(f) => return SignatureRead::No(f),
+            TpmAlgIdRead::No(f) => return TpmtSignatureRead::No(f),
         };
         let signature = match TpmuSignature::unmarshal_tagged(sig_alg, s, end) {
-            SignatureArmRead::Found(v, e) => {
+            TpmuSignatureRead::Found(v, e) => {
                 end = e;
                 v
             }
-            SignatureArmRead::No(f) => return SignatureRead::No(f),
+            TpmuSignatureRead::No(f) => return TpmtSignatureRead::No(f),
         };
-        SignatureRead::Found(
+        TpmtSignatureRead::Found(
             TpmtSignature {
                 sig_alg: sig_alg,
                 signature: signature,
@@ -136,37 +136,37 @@ impl TpmtSignature {
 
 impl TpmtPublic {
     // Kind 11, TPMT_PUBLIC, read.
-    pub fn unmarshal(s: &[u8], at: usize) -> PublicRead
-        ensures { λ r. ⌜ publicAnswer r ≡ read publicArea (now (s .entry)) at ⌝ }
+    pub fn unmarshal(s: &[u8], at: usize) -> TpmtPublicRead
+        ensures { λ r. ⌜ tpmtPublicAnswer r ≡ read tpmtPublic (now (s .entry)) at ⌝ }
     {
         let mut end = at;
         let object_type = match TpmAlgId::unmarshal(s, end) {
-            AlgRead::Found(v, e) => {
+            TpmAlgIdRead::Found(v, e) => {
                 end = e;
                 v
             }
-            AlgRead::No(f) => return PublicRead::No(f),
+            TpmAlgIdRead::No(f) => return TpmtPublicRead::No(f),
         };
         let name_alg = match TpmAlgId::unmarshal(s, end) {
-            AlgRead::Found(v, e) => {
+            TpmAlgIdRead::Found(v, e) => {
                 end = e;
                 v
             }
-            AlgRead::No(f) => return PublicRead::No(f),
+            TpmAlgIdRead::No(f) => return TpmtPublicRead::No(f),
         };
         let attributes = match uint32(s, end) {
             Uint32Read::Found(v, e) => {
                 end = e;
                 v
             }
-            Uint32Read::No(f) => return PublicRead::No(f),
+            Uint32Read::No(f) => return TpmtPublicRead::No(f),
         };
         let auth_policy = match buffer(s, end, Width::Two, limits::MAX_DIGEST_SIZE) {
             SpanRead::Found(v, e) => {
                 end = e;
                 v
             }
-            SpanRead::No(f) => return PublicRead::No(f),
+            SpanRead::No(f) => return TpmtPublicRead::No(f),
         };
         TpmtPublic::arms(
             object_type,
@@ -186,25 +186,25 @@ impl TpmtPublic {
         policy: Span,
         s: &[u8],
         at: usize,
-    ) -> PublicRead
-        ensures { λ r. ⌜ publicAnswer r ≡ fronted (λ qs. num (object .0) ∷ num (naming .0) ∷ num (attributes .0) ∷ spanPart policy ∷ qs) (read (parmsBy (object .0) then uniqueBy (object .0)) (now (s .entry)) at) ⌝ }
+    ) -> TpmtPublicRead
+        ensures { λ r. ⌜ tpmtPublicAnswer r ≡ fronted (λ qs. num (object .0) ∷ num (naming .0) ∷ num (attributes .0) ∷ spanPart policy ∷ qs) (read (tpmuPublicParms (object .0) then tpmuPublicId (object .0)) (now (s .entry)) at) ⌝ }
     {
         let mut end = at;
         let parameters = match TpmuPublicParms::unmarshal_tagged(object, s, end) {
-            PublicParmsArmRead::Found(v, e) => {
+            TpmuPublicParmsRead::Found(v, e) => {
                 end = e;
                 v
             }
-            PublicParmsArmRead::No(f) => return PublicRead::No(f),
+            TpmuPublicParmsRead::No(f) => return TpmtPublicRead::No(f),
         };
         let unique = match TpmuPublicId::unmarshal_tagged(object, s, end) {
-            PublicIdRead::Found(v, e) => {
+            TpmuPublicIdRead::Found(v, e) => {
                 end = e;
                 v
             }
-            PublicIdRead::No(f) => return PublicRead::No(f),
+            TpmuPublicIdRead::No(f) => return TpmtPublicRead::No(f),
         };
-        PublicRead::Found(
+        TpmtPublicRead::Found(
             TpmtPublic {
                 object_type: object,
                 name_alg: naming,
@@ -220,39 +220,39 @@ impl TpmtPublic {
 
 impl TpmtSensitive {
     // Kind 12, TPMT_SENSITIVE, read.
-    pub fn unmarshal(s: &[u8], at: usize) -> SensitiveRead
-        ensures { λ r. ⌜ sensitiveAnswer r ≡ read sensitive (now (s .entry)) at ⌝ }
+    pub fn unmarshal(s: &[u8], at: usize) -> TpmtSensitiveRead
+        ensures { λ r. ⌜ tpmtSensitiveAnswer r ≡ read tpmtSensitive (now (s .entry)) at ⌝ }
     {
         let mut end = at;
         let sensitive_type = match TpmAlgId::unmarshal(s, end) {
-            AlgRead::Found(v, e) => {
+            TpmAlgIdRead::Found(v, e) => {
                 end = e;
                 v
             }
-            AlgRead::No(f) => return SensitiveRead::No(f),
+            TpmAlgIdRead::No(f) => return TpmtSensitiveRead::No(f),
         };
         let auth_value = match buffer(s, end, Width::Two, limits::MAX_DIGEST_SIZE) {
             SpanRead::Found(v, e) => {
                 end = e;
                 v
             }
-            SpanRead::No(f) => return SensitiveRead::No(f),
+            SpanRead::No(f) => return TpmtSensitiveRead::No(f),
         };
         let seed_value = match buffer(s, end, Width::Two, limits::MAX_DIGEST_SIZE) {
             SpanRead::Found(v, e) => {
                 end = e;
                 v
             }
-            SpanRead::No(f) => return SensitiveRead::No(f),
+            SpanRead::No(f) => return TpmtSensitiveRead::No(f),
         };
         let sensitive = match TpmuSensitiveComposite::unmarshal_tagged(sensitive_type, s, end) {
-            SensitiveCompositeRead::Found(v, e) => {
+            TpmuSensitiveCompositeRead::Found(v, e) => {
                 end = e;
                 v
             }
-            SensitiveCompositeRead::No(f) => return SensitiveRead::No(f),
+            TpmuSensitiveCompositeRead::No(f) => return TpmtSensitiveRead::No(f),
         };
-        SensitiveRead::Found(
+        TpmtSensitiveRead::Found(
             TpmtSensitive {
                 sensitive_type: sensitive_type,
                 auth_value: auth_value,

@@ -1,23 +1,23 @@
 // The unions of keys and signatures. Parameters and unique are chosen by the same selector, the type; the sensitive union has no Null.
-use crate::tpms::EccParmsRead;
-use crate::tpms::EccPointRead;
-use crate::tpms::KeyedhashParmsRead;
-use crate::tpms::RsaParmsRead;
-use crate::tpms::SignatureEccRead;
-use crate::tpms::SignatureRsaRead;
-use crate::tpms::SymcipherParmsRead;
 use crate::tpms::TpmsEccParms;
+use crate::tpms::TpmsEccParmsRead;
 use crate::tpms::TpmsEccPoint;
+use crate::tpms::TpmsEccPointRead;
 use crate::tpms::TpmsKeyedhashParms;
+use crate::tpms::TpmsKeyedhashParmsRead;
 use crate::tpms::TpmsRsaParms;
+use crate::tpms::TpmsRsaParmsRead;
 use crate::tpms::TpmsSignatureEcc;
+use crate::tpms::TpmsSignatureEccRead;
 use crate::tpms::TpmsSignatureRsa;
+use crate::tpms::TpmsSignatureRsaRead;
 use crate::tpms::TpmsSymcipherParms;
+use crate::tpms::TpmsSymcipherParmsRead;
 use kinds::codes::TpmAlgId;
 use kinds::limits;
 use kinds::registry;
-use schemes::tpmt::HaRead;
 use schemes::tpmt::TpmtHa;
+use schemes::tpmt::TpmtHaRead;
 use wire::fault::Refusal;
 use wire::read::SpanRead;
 use wire::read::buffer;
@@ -27,11 +27,11 @@ use wire::width::Width;
 ghost use mathlib.Core.Path.{_≡_};
 ghost use Rattle.wire.specs.Reading.{read};
 ghost use Rattle.wire.specs.Unions.{isArm};
-ghost use Rattle.kinds.specs.Tables.{typeArm, sensitiveArm, signatureArm};
-ghost use Rattle.kinds.specs.Kinds.{parmsBy, uniqueBy, sensitiveBy, signatureBy};
+ghost use Rattle.kinds.specs.Tables.{typeArm, tpmuSensitiveCompositeArm, tpmuSignatureArm};
+ghost use Rattle.kinds.specs.Kinds.{tpmuPublicParms, tpmuPublicId, tpmuSensitiveComposite, tpmuSignature};
 ghost use Rattle.schemes.specs.Parts.{held};
-ghost use Rattle.keys.specs.Parts.{parmsParts, uniqueParts, compositeParts, sigUnionParts};
-ghost use Rattle.keys.specs.Answers.{parmsAnswer, uniqueAnswer, compositeAnswer, sigUnionAnswer};
+ghost use Rattle.keys.specs.Parts.{tpmuPublicParmsParts, tpmuPublicIdParts, tpmuSensitiveCompositeParts, tpmuSignatureParts};
+ghost use Rattle.keys.specs.Answers.{tpmuPublicParmsAnswer, tpmuPublicIdAnswer, tpmuSensitiveCompositeAnswer, tpmuSignatureAnswer};
 
 pub enum TpmuPublicId {
     KeyedHash(Span),
@@ -67,56 +67,56 @@ pub enum TpmuSignature {
     Null,
 }
 
-pub enum PublicIdRead {
+pub enum TpmuPublicIdRead {
     Found(TpmuPublicId, usize),
     No(Refusal),
 }
 
-pub enum PublicParmsArmRead {
+pub enum TpmuPublicParmsRead {
     Found(TpmuPublicParms, usize),
     No(Refusal),
 }
 
-pub enum SensitiveCompositeRead {
+pub enum TpmuSensitiveCompositeRead {
     Found(TpmuSensitiveComposite, usize),
     No(Refusal),
 }
 
-pub enum SignatureArmRead {
+pub enum TpmuSignatureRead {
     Found(TpmuSignature, usize),
     No(Refusal),
 }
 
 impl TpmuPublicId {
-    pub fn unmarshal_tagged(tag: TpmAlgId, s: &[u8], at: usize) -> PublicIdRead
-        ensures { λ r. ⌜ uniqueAnswer r ≡ read (uniqueBy (tag .0)) (now (s .entry)) at ⌝ }
+    pub fn unmarshal_tagged(tag: TpmAlgId, s: &[u8], at: usize) -> TpmuPublicIdRead
+        ensures { λ r. ⌜ tpmuPublicIdAnswer r ≡ read (tpmuPublicId (tag .0)) (now (s .entry)) at ⌝ }
     {
         let v = tag.0;
         match v {
             registry::KEYED_HASH => match buffer(s, at, Width::Two, limits::MAX_DIGEST_SIZE) {
-                SpanRead::Found(x, e) => PublicIdRead::Found(TpmuPublicId::KeyedHash(x), e),
-                SpanRead::No(f) => PublicIdRead::No(f),
+                SpanRead::Found(x, e) => TpmuPublicIdRead::Found(TpmuPublicId::KeyedHash(x), e),
+                SpanRead::No(f) => TpmuPublicIdRead::No(f),
             },
             registry::SYM_CIPHER => match buffer(s, at, Width::Two, limits::MAX_SYM_KEY_BYTES) {
-                SpanRead::Found(x, e) => PublicIdRead::Found(TpmuPublicId::SymCipher(x), e),
-                SpanRead::No(f) => PublicIdRead::No(f),
+                SpanRead::Found(x, e) => TpmuPublicIdRead::Found(TpmuPublicId::SymCipher(x), e),
+                SpanRead::No(f) => TpmuPublicIdRead::No(f),
             },
             registry::RSA => match buffer(s, at, Width::Two, limits::MAX_RSA_KEY_BYTES) {
-                SpanRead::Found(x, e) => PublicIdRead::Found(TpmuPublicId::Rsa(x), e),
-                SpanRead::No(f) => PublicIdRead::No(f),
+                SpanRead::Found(x, e) => TpmuPublicIdRead::Found(TpmuPublicId::Rsa(x), e),
+                SpanRead::No(f) => TpmuPublicIdRead::No(f),
             },
             registry::ECC => match TpmsEccPoint::unmarshal(s, at) {
-                EccPointRead::Found(x, e) => PublicIdRead::Found(TpmuPublicId::Ecc(x), e),
-                EccPointRead::No(f) => PublicIdRead::No(f),
+                TpmsEccPointRead::Found(x, e) => TpmuPublicIdRead::Found(TpmuPublicId::Ecc(x), e),
+                TpmsEccPointRead::No(f) => TpmuPublicIdRead::No(f),
             },
-            registry::NULL => PublicIdRead::Found(TpmuPublicId::Null, at),
-            _ => PublicIdRead::No(Refusal::no_arm(at, wide(v))),
+            registry::NULL => TpmuPublicIdRead::Found(TpmuPublicId::Null, at),
+            _ => TpmuPublicIdRead::No(Refusal::no_arm(at, wide(v))),
         }
     }
 
     // Whether the payload is the arm that the selector chooses.
     pub fn matches_tag(self, tag: TpmAlgId) -> bool
-        ensures { λ r. ⌜ r ≡ isArm (typeArm (tag .0)) (held (uniqueParts self)) ⌝ }
+        ensures { λ r. ⌜ r ≡ isArm (typeArm (tag .0)) (held (tpmuPublicIdParts self)) ⌝ }
     {
         let chosen = tag.type_arm();
         match self {
@@ -130,41 +130,47 @@ impl TpmuPublicId {
 }
 
 impl TpmuPublicParms {
-    pub fn unmarshal_tagged(tag: TpmAlgId, s: &[u8], at: usize) -> PublicParmsArmRead
-        ensures { λ r. ⌜ parmsAnswer r ≡ read (parmsBy (tag .0)) (now (s .entry)) at ⌝ }
+    pub fn unmarshal_tagged(tag: TpmAlgId, s: &[u8], at: usize) -> TpmuPublicParmsRead
+        ensures { λ r. ⌜ tpmuPublicParmsAnswer r ≡ read (tpmuPublicParms (tag .0)) (now (s .entry)) at ⌝ }
     {
         let v = tag.0;
         match v {
             registry::KEYED_HASH => match TpmsKeyedhashParms::unmarshal(s, at) {
-                KeyedhashParmsRead::Found(x, e) => PublicParmsArmRead::Found(
+                TpmsKeyedhashParmsRead::Found(x, e) => TpmuPublicParmsRead::Found(
                     TpmuPublicParms::KeyedHash(x),
                     e,
                 ),
-                KeyedhashParmsRead::No(f) => PublicParmsArmRead::No(f),
+                TpmsKeyedhashParmsRead::No(f) => TpmuPublicParmsRead::No(f),
             },
             registry::SYM_CIPHER => match TpmsSymcipherParms::unmarshal(s, at) {
-                SymcipherParmsRead::Found(x, e) => PublicParmsArmRead::Found(
+                TpmsSymcipherParmsRead::Found(x, e) => TpmuPublicParmsRead::Found(
                     TpmuPublicParms::SymCipher(x),
                     e,
                 ),
-                SymcipherParmsRead::No(f) => PublicParmsArmRead::No(f),
+                TpmsSymcipherParmsRead::No(f) => TpmuPublicParmsRead::No(f),
             },
             registry::RSA => match TpmsRsaParms::unmarshal(s, at) {
-                RsaParmsRead::Found(x, e) => PublicParmsArmRead::Found(TpmuPublicParms::Rsa(x), e),
-                RsaParmsRead::No(f) => PublicParmsArmRead::No(f),
+                TpmsRsaParmsRead::Found(x, e) => TpmuPublicParmsRead::Found(
+                    TpmuPublicParms::Rsa(x),
+                    e,
+                ),
+                TpmsRsaParmsRead::No(f) => TpmuPublicParmsRead::No(f),
             },
             registry::ECC => match TpmsEccParms::unmarshal(s, at) {
-                EccParmsRead::Found(x, e) => PublicParmsArmRead::Found(TpmuPublicParms::Ecc(x), e),
-                EccParmsRead::No(f) => PublicParmsArmRead::No(f),
+                TpmsEccParmsRead::Found(x, e) => TpmuPublicParmsRead::Found(
+                    TpmuPublicParms::Ecc(x),
+                    e,
+                ),
+                TpmsEccParmsRead::No(f) => TpmuPublicParmsRead::No(f),
             },
-            registry::NULL => PublicParmsArmRead::Found(TpmuPublicParms::Null, at),
-            _ => PublicParmsArmRead::No(Refusal::no_arm(at, wide(v))),
+            registry::NULL => TpmuPublicParmsRead::Found(TpmuPublicParms::Null, at),
+            _ => TpmuPublicParmsRead::No(Refusal::no_arm(at, wide(v))),
         }
     }
 
     // Whether the payload is the arm that the selector chooses.
     pub fn matches_tag(self, tag: TpmAlgId) -> bool
-        ensures { λ r. ⌜ r ≡ isArm (typeArm (tag .0)) (held (parmsParts self)) ⌝ }
+        ensures { λ r. ⌜ r ≡ isArm (typeArm (tag .0)) (held (tpmuPublicParmsParts self)) ⌝ }
     {
         let chosen = tag.type_arm();
         match self {
@@ -178,46 +184,46 @@ impl TpmuPublicParms {
 }
 
 impl TpmuSensitiveComposite {
-    pub fn unmarshal_tagged(tag: TpmAlgId, s: &[u8], at: usize) -> SensitiveCompositeRead
-        ensures { λ r. ⌜ compositeAnswer r ≡ read (sensitiveBy (tag .0)) (now (s .entry)) at ⌝ }
+    pub fn unmarshal_tagged(tag: TpmAlgId, s: &[u8], at: usize) -> TpmuSensitiveCompositeRead
+        ensures { λ r. ⌜ tpmuSensitiveCompositeAnswer r ≡ read (tpmuSensitiveComposite (tag .0)) (now (s .entry)) at ⌝ }
     {
         let v = tag.0;
         match v {
             registry::RSA => match buffer(s, at, Width::Two, limits::MAX_PRIVATE_KEY_RSA) {
-                SpanRead::Found(x, e) => SensitiveCompositeRead::Found(
+                SpanRead::Found(x, e) => TpmuSensitiveCompositeRead::Found(
                     TpmuSensitiveComposite::Rsa(x),
                     e,
                 ),
-                SpanRead::No(f) => SensitiveCompositeRead::No(f),
+                SpanRead::No(f) => TpmuSensitiveCompositeRead::No(f),
             },
             registry::ECC => match buffer(s, at, Width::Two, limits::MAX_ECC_KEY_BYTES) {
-                SpanRead::Found(x, e) => SensitiveCompositeRead::Found(
+                SpanRead::Found(x, e) => TpmuSensitiveCompositeRead::Found(
                     TpmuSensitiveComposite::Ecc(x),
                     e,
                 ),
-                SpanRead::No(f) => SensitiveCompositeRead::No(f),
+                SpanRead::No(f) => TpmuSensitiveCompositeRead::No(f),
             },
             registry::KEYED_HASH => match buffer(s, at, Width::Two, limits::MAX_SENSITIVE_DATA) {
-                SpanRead::Found(x, e) => SensitiveCompositeRead::Found(
+                SpanRead::Found(x, e) => TpmuSensitiveCompositeRead::Found(
                     TpmuSensitiveComposite::Bits(x),
                     e,
                 ),
-                SpanRead::No(f) => SensitiveCompositeRead::No(f),
+                SpanRead::No(f) => TpmuSensitiveCompositeRead::No(f),
             },
             registry::SYM_CIPHER => match buffer(s, at, Width::Two, limits::MAX_SYM_KEY_BYTES) {
-                SpanRead::Found(x, e) => SensitiveCompositeRead::Found(
+                SpanRead::Found(x, e) => TpmuSensitiveCompositeRead::Found(
                     TpmuSensitiveComposite::Sym(x),
                     e,
                 ),
-                SpanRead::No(f) => SensitiveCompositeRead::No(f),
+                SpanRead::No(f) => TpmuSensitiveCompositeRead::No(f),
             },
-            _ => SensitiveCompositeRead::No(Refusal::no_arm(at, wide(v))),
+            _ => TpmuSensitiveCompositeRead::No(Refusal::no_arm(at, wide(v))),
         }
     }
 
     // Whether the payload is the arm that the selector chooses.
     pub fn matches_tag(self, tag: TpmAlgId) -> bool
-        ensures { λ r. ⌜ r ≡ isArm (sensitiveArm (tag .0)) (held (compositeParts self)) ⌝ }
+        ensures { λ r. ⌜ r ≡ isArm (tpmuSensitiveCompositeArm (tag .0)) (held (tpmuSensitiveCompositeParts self)) ⌝ }
     {
         let chosen = tag.sensitive_arm();
         match self {
@@ -230,62 +236,65 @@ impl TpmuSensitiveComposite {
 }
 
 impl TpmuSignature {
-    pub fn unmarshal_tagged(tag: TpmAlgId, s: &[u8], at: usize) -> SignatureArmRead
-        ensures { λ r. ⌜ sigUnionAnswer r ≡ read (signatureBy (tag .0)) (now (s .entry)) at ⌝ }
+    pub fn unmarshal_tagged(tag: TpmAlgId, s: &[u8], at: usize) -> TpmuSignatureRead
+        ensures { λ r. ⌜ tpmuSignatureAnswer r ≡ read (tpmuSignature (tag .0)) (now (s .entry)) at ⌝ }
     {
         let v = tag.0;
         match v {
             registry::RSASSA => match TpmsSignatureRsa::unmarshal(s, at) {
-                SignatureRsaRead::Found(x, e) => SignatureArmRead::Found(
+                TpmsSignatureRsaRead::Found(x, e) => TpmuSignatureRead::Found(
                     TpmuSignature::Rsassa(x),
                     e,
                 ),
-                SignatureRsaRead::No(f) => SignatureArmRead::No(f),
+                TpmsSignatureRsaRead::No(f) => TpmuSignatureRead::No(f),
             },
             registry::RSAPSS => match TpmsSignatureRsa::unmarshal(s, at) {
-                SignatureRsaRead::Found(x, e) => SignatureArmRead::Found(
+                TpmsSignatureRsaRead::Found(x, e) => TpmuSignatureRead::Found(
                     TpmuSignature::Rsapss(x),
                     e,
                 ),
-                SignatureRsaRead::No(f) => SignatureArmRead::No(f),
+                TpmsSignatureRsaRead::No(f) => TpmuSignatureRead::No(f),
             },
             registry::ECDSA => match TpmsSignatureEcc::unmarshal(s, at) {
-                SignatureEccRead::Found(x, e) => SignatureArmRead::Found(
+                TpmsSignatureEccRead::Found(x, e) => TpmuSignatureRead::Found(
                     TpmuSignature::Ecdsa(x),
                     e,
                 ),
-                SignatureEccRead::No(f) => SignatureArmRead::No(f),
+                TpmsSignatureEccRead::No(f) => TpmuSignatureRead::No(f),
             },
             registry::ECDAA => match TpmsSignatureEcc::unmarshal(s, at) {
-                SignatureEccRead::Found(x, e) => SignatureArmRead::Found(
+                TpmsSignatureEccRead::Found(x, e) => TpmuSignatureRead::Found(
                     TpmuSignature::Ecdaa(x),
                     e,
                 ),
-                SignatureEccRead::No(f) => SignatureArmRead::No(f),
+                TpmsSignatureEccRead::No(f) => TpmuSignatureRead::No(f),
             },
             registry::SM2 => match TpmsSignatureEcc::unmarshal(s, at) {
-                SignatureEccRead::Found(x, e) => SignatureArmRead::Found(TpmuSignature::Sm2(x), e),
-                SignatureEccRead::No(f) => SignatureArmRead::No(f),
+                TpmsSignatureEccRead::Found(x, e) => TpmuSignatureRead::Found(
+                    TpmuSignature::Sm2(x),
+                    e,
+                ),
+                TpmsSignatureEccRead::No(f) => TpmuSignatureRead::No(f),
             },
             registry::ECSCHNORR => match TpmsSignatureEcc::unmarshal(s, at) {
-                SignatureEccRead::Found(x, e) => SignatureArmRead::Found(
+                TpmsSignatureEccRead::Found(x, e) => TpmuSignatureRead::Found(
                     TpmuSignature::Ecschnorr(x),
                     e,
                 ),
-                SignatureEccRead::No(f) => SignatureArmRead::No(f),
+                TpmsSignatureEccRead::No(f) => TpmuSignatureRead::No(f),
             },
             registry::HMAC => match TpmtHa::unmarshal(s, at) {
-                HaRead::Found(x, e) => SignatureArmRead::Found(TpmuSignature::Hmac(x), e),
-                HaRead::No(f) => SignatureArmRead::No(f),
+                TpmtHaRead::Found(x, e) => TpmuSignatureRead::Found(TpmuSignature::Hmac(x), e),
+                TpmtHaRead::No(f) => TpmuSignatureRead::No(f),
             },
-            registry::NULL => SignatureArmRead::Found(TpmuSignature::Null, at),
-            _ => SignatureArmRead::No(Refusal::no_arm(at, wide(v))),
+            registry::NULL => TpmuSignatureRead::Found(TpmuSignature::Null, at),
+            _ => TpmuSignatureRead::No(Refusal::no_arm(at, wide(v))),
         }
     }
 
     // Whether the payload is the arm that the selector chooses.
     pub fn matches_tag(self, tag: TpmAlgId) -> bool
-        ensures { λ r. ⌜ r ≡ isArm (signatureArm (tag .0)) (held (sigUnionParts self)) ⌝ }
+        ensures { λ r. ⌜ r ≡ isArm (tpmuSignatureArm (tag .0)) (held (tpmuSignatureParts self)) ⌝ }
     {
         let chosen = tag.signature_arm();
         match self {

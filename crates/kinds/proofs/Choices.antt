@@ -11,7 +11,7 @@ use Rattle.wire.specs.declared.choice.Choice.{Choice}
 use Rattle.wire.specs.declared.choice.Choice.the-variants.{Nothing, The}
 use Rattle.wire.specs.Unions.{Row, choose, look}
 use Rattle.kinds.specs.Codes.{row, member, within}
-use Rattle.kinds.specs.Tables.{digestRows, digestArm}
+use Rattle.kinds.specs.Tables.{tpmuHaRows, tpmuHaArm}
 
 -- P holds of the arm of every row
 abbrev pub Each : (ℕ → Type 0) → List Row → Type 0
@@ -135,6 +135,6 @@ pub none-unmatched : (rs : List Row) (xss : List (List ℕ)) → every (matched 
 none-unmatched rs xss e v u = none-chosen rs v (fails (matched xss) rs e v (not-matched xss v u))
 
 -- a digest's arm, one more than its length, is at most 65
-pub digest-short : (v : ℕ) {t : ℕ} → digestArm v ≡ The t → t ≤ 65
-unfolding digestArm
-digest-short v e = chosen-has (λ t. t ≤ 65) digestRows (omega arith) v e
+pub digest-short : (v : ℕ) {t : ℕ} → tpmuHaArm v ≡ The t → t ≤ 65
+unfolding tpmuHaArm
+digest-short v e = chosen-has (λ t. t ≤ 65) tpmuHaRows (omega arith) v e

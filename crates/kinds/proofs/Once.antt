@@ -12,11 +12,11 @@ use Rattle.kinds.specs.declared.uint.Uint32Read.{Uint32Read}
 use Rattle.kinds.specs.declared.codes.TpmAlgId.{TpmAlgId}
 use Rattle.kinds.specs.declared.codes.TpmEccCurve.{TpmEccCurve}
 use Rattle.kinds.specs.declared.codes.TpmSt.{TpmSt}
-use Rattle.kinds.specs.declared.codes.AlgRead.{AlgRead}
-use Rattle.kinds.specs.declared.codes.CurveRead.{CurveRead}
-use Rattle.kinds.specs.declared.codes.StRead.{StRead}
+use Rattle.kinds.specs.declared.codes.TpmAlgIdRead.{TpmAlgIdRead}
+use Rattle.kinds.specs.declared.codes.TpmEccCurveRead.{TpmEccCurveRead}
+use Rattle.kinds.specs.declared.codes.TpmStRead.{TpmStRead}
 use Rattle.kinds.specs.declared.codes.DigestLen.{DigestLen}
-use Rattle.kinds.specs.Answers.{uint8Answer, uint16Answer, uint32Answer, algAnswer, curveAnswer, attestationAnswer, digestChoice}
+use Rattle.kinds.specs.Answers.{uint8Answer, uint16Answer, uint32Answer, tpmAlgIdAnswer, tpmEccCurveAnswer, tpmStAnswer, digestChoice}
 
 pub alg-once : Once (λ (a : TpmAlgId). num (a .0) ∷ [])
 alg-once = fields (λ a. a .0) (λ n. record { 0 = n }) (λ a. refl) number-once
@@ -36,14 +36,14 @@ uint16-answer-once = answers number-once Uint16Read.Found Uint16Read.No uint16An
 pub uint32-answer-once : Injective uint32Answer
 uint32-answer-once = answers number-once Uint32Read.Found Uint32Read.No uint32Answer (λ back. elim [ Uint32Read.Found n e ↦ back n e | Uint32Read.No f ↦ refl ])
 
-pub alg-answer-once : Injective algAnswer
-alg-answer-once = answers alg-once AlgRead.Found AlgRead.No algAnswer (λ back. elim [ AlgRead.Found a e ↦ back a e | AlgRead.No f ↦ refl ])
+pub alg-answer-once : Injective tpmAlgIdAnswer
+alg-answer-once = answers alg-once TpmAlgIdRead.Found TpmAlgIdRead.No tpmAlgIdAnswer (λ back. elim [ TpmAlgIdRead.Found a e ↦ back a e | TpmAlgIdRead.No f ↦ refl ])
 
-pub curve-answer-once : Injective curveAnswer
-curve-answer-once = answers curve-once CurveRead.Found CurveRead.No curveAnswer (λ back. elim [ CurveRead.Found c e ↦ back c e | CurveRead.No f ↦ refl ])
+pub curve-answer-once : Injective tpmEccCurveAnswer
+curve-answer-once = answers curve-once TpmEccCurveRead.Found TpmEccCurveRead.No tpmEccCurveAnswer (λ back. elim [ TpmEccCurveRead.Found c e ↦ back c e | TpmEccCurveRead.No f ↦ refl ])
 
-pub attestation-answer-once : Injective attestationAnswer
-attestation-answer-once = answers attestation-once StRead.Found StRead.No attestationAnswer (λ back. elim [ StRead.Found t e ↦ back t e | StRead.No f ↦ refl ])
+pub attestation-answer-once : Injective tpmStAnswer
+attestation-answer-once = answers attestation-once TpmStRead.Found TpmStRead.No tpmStAnswer (λ back. elim [ TpmStRead.Found t e ↦ back t e | TpmStRead.No f ↦ refl ])
 
 pub digest-choice-once : Injective digestChoice
 digest-choice-once = undone digestChoice

@@ -8,7 +8,7 @@ use borrow.Author.Tests.{eqb-true}
 use Rattle.wire.specs.declared.choice.Choice.the-variants.{Nothing, The}
 use Rattle.wire.specs.Unions.{Row, own, choose, look}
 use Rattle.kinds.specs.Codes.{member, attestations, isAttestation}
-use Rattle.kinds.specs.Tables.{attestArm}
+use Rattle.kinds.specs.Tables.{tpmuAttestArm}
 
 abbrev pub owned : List ℕ → List Row
 owned [] = []
@@ -23,6 +23,6 @@ look-own (c ∷ cs) v = go (eqb v c) refl (look-own cs v)
     go false e rest = rest
 
 -- the listed attestation types are those with an arm
-pub attestation-arm : (v : ℕ) → attestArm v ≡ choose (isAttestation v) (The v) Nothing
-unfolding attestArm isAttestation attestations
+pub attestation-arm : (v : ℕ) → tpmuAttestArm v ≡ choose (isAttestation v) (The v) Nothing
+unfolding tpmuAttestArm isAttestation attestations
 attestation-arm v = look-own attestations v

@@ -8,8 +8,8 @@ use Rattle.wire.specs.Faults.{short, unknownCode, noSuchArm, tooLong, tooManyIt
 use Rattle.wire.specs.Layout.{_then_}
 use Rattle.wire.specs.Reading.{num, tag, span, Ans, refused, Parsed, parsed, piece, field, list, read}
 use Rattle.kinds.specs.Codes.{algorithms, curves, isAlgorithm, isCurve, null, aes, rsaes, ecc, sha1}
-use Rattle.kinds.specs.Tables.{digestArm, asymArm, kdfArm, cipherArm, typeArm, empty, digestOf}
-use Rattle.kinds.specs.Kinds.{schemeHash, haBy, asymBy, kdfBy, keyBitsBy, modeBy, parmsBy, uniqueBy, ha, symDef, kdfScheme, asymScheme, eccParms, eccPoint, publicArea, pcrSelection, pcrSelections, kinds, layoutOf, readKind}
+use Rattle.kinds.specs.Tables.{tpmuHaArm, tpmuAsymSchemeArm, tpmuKdfSchemeArm, cipherArm, typeArm, empty, digestOf}
+use Rattle.kinds.specs.Kinds.{tpmsSchemeHash, tpmuHa, tpmuAsymScheme, tpmuKdfScheme, tpmuSymKeyBits, tpmuSymMode, tpmuPublicParms, tpmuPublicId, tpmtHa, tpmtSymDef, tpmtKdfScheme, tpmtAsymScheme, tpmsEccParms, tpmsEccPoint, tpmtPublic, tpmsPcrSelection, tpmlPcrSelection, kinds, layoutOf, readKind}
 
 -- a kind, some bytes, and the answer to them
 pub record Sample : Type 0 where
@@ -52,5 +52,5 @@ AllHold (s ∷ ss) = (readKind (s .kind) (s .input) 0 ≡ s .answer) × AllHold 
 
 -- each sample is read, or refused, as it says
 pub samples-hold : AllHold samples
-unfolding samples readKind layoutOf kinds read piece field list be _then_ algorithms curves isAlgorithm isCurve schemeHash digestArm asymArm kdfArm cipherArm typeArm haBy asymBy kdfBy keyBitsBy modeBy parmsBy uniqueBy ha symDef kdfScheme asymScheme eccParms eccPoint publicArea pcrSelection pcrSelections
+unfolding samples readKind layoutOf kinds read piece field list be _then_ algorithms curves isAlgorithm isCurve tpmsSchemeHash tpmuHaArm tpmuAsymSchemeArm tpmuKdfSchemeArm cipherArm typeArm tpmuHa tpmuAsymScheme tpmuKdfScheme tpmuSymKeyBits tpmuSymMode tpmuPublicParms tpmuPublicId tpmtHa tpmtSymDef tpmtKdfScheme tpmtAsymScheme tpmsEccParms tpmsEccPoint tpmtPublic tpmsPcrSelection tpmlPcrSelection
 samples-hold = (refl, (refl, (refl, (refl, (refl, (refl, (refl, (refl, (refl, (refl, (refl, (refl, (refl, (refl, (refl, tt)))))))))))))))

@@ -6,9 +6,9 @@ use Rattle.wire.specs.Reading.{num, Ans, refused, Parsed, parsed}
 use Rattle.kinds.specs.declared.uint.Uint8Read.{Uint8Read}
 use Rattle.kinds.specs.declared.uint.Uint16Read.{Uint16Read}
 use Rattle.kinds.specs.declared.uint.Uint32Read.{Uint32Read}
-use Rattle.kinds.specs.declared.codes.AlgRead.{AlgRead}
-use Rattle.kinds.specs.declared.codes.CurveRead.{CurveRead}
-use Rattle.kinds.specs.declared.codes.StRead.{StRead}
+use Rattle.kinds.specs.declared.codes.TpmAlgIdRead.{TpmAlgIdRead}
+use Rattle.kinds.specs.declared.codes.TpmEccCurveRead.{TpmEccCurveRead}
+use Rattle.kinds.specs.declared.codes.TpmStRead.{TpmStRead}
 use Rattle.kinds.specs.declared.codes.DigestLen.{DigestLen}
 
 -- a number that was read, and where it ends
@@ -25,17 +25,17 @@ uint32Answer (Uint32Read.Found n e) = parsed (num n ∷ []) e
 uint32Answer (Uint32Read.No f) = refused f
 
 -- a code that was read, and where it ends
-abbrev pub algAnswer : AlgRead → Ans Parsed
-algAnswer (AlgRead.Found a e) = parsed (num (a .0) ∷ []) e
-algAnswer (AlgRead.No f) = refused f
+abbrev pub tpmAlgIdAnswer : TpmAlgIdRead → Ans Parsed
+tpmAlgIdAnswer (TpmAlgIdRead.Found a e) = parsed (num (a .0) ∷ []) e
+tpmAlgIdAnswer (TpmAlgIdRead.No f) = refused f
 
-abbrev pub curveAnswer : CurveRead → Ans Parsed
-curveAnswer (CurveRead.Found c e) = parsed (num (c .0) ∷ []) e
-curveAnswer (CurveRead.No f) = refused f
+abbrev pub tpmEccCurveAnswer : TpmEccCurveRead → Ans Parsed
+tpmEccCurveAnswer (TpmEccCurveRead.Found c e) = parsed (num (c .0) ∷ []) e
+tpmEccCurveAnswer (TpmEccCurveRead.No f) = refused f
 
-abbrev pub attestationAnswer : StRead → Ans Parsed
-attestationAnswer (StRead.Found t e) = parsed (num (t .0) ∷ []) e
-attestationAnswer (StRead.No f) = refused f
+abbrev pub tpmStAnswer : TpmStRead → Ans Parsed
+tpmStAnswer (TpmStRead.Found t e) = parsed (num (t .0) ∷ []) e
+tpmStAnswer (TpmStRead.No f) = refused f
 
 -- a digest's length as the arm of its union: one more, so that no digest is the empty arm
 abbrev pub digestChoice : DigestLen → Choice

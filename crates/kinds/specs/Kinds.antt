@@ -9,7 +9,7 @@ use Rattle.wire.specs.Layout.{Layout, stop, noArm, number, plain, buffer, count
 use Rattle.wire.specs.Reading.{Reader, Parsed, refused, when, read}
 use Rattle.wire.specs.Unions.{Case, union, case, by}
 use Rattle.kinds.specs.Codes.{alg, curve, attestation, yesNo, magic, rsa, hmac, aes, mgf1, keyedHash, xor, sm4, rsassa, rsapss, ecdsa, ecdaa, sm2, ecschnorr, kdf1-sp800-56a, kdf2, kdf1-sp800-108, ecc, symCipher, camellia, attestNv, attestCommandAudit, attestSessionAudit, attestCertify, attestQuote, attestTime, attestCreation, attestNvDigest}
-use Rattle.kinds.specs.Tables.{digestArm, asymArm, sigArm, keyedhashArm, kdfArm, cipherArm, typeArm, sensitiveArm, signatureArm, attestArm}
+use Rattle.kinds.specs.Tables.{tpmuHaArm, tpmuAsymSchemeArm, tpmuSigSchemeArm, tpmuKeyedhashSchemeArm, tpmuKdfSchemeArm, cipherArm, typeArm, tpmuSensitiveCompositeArm, tpmuSignatureArm, tpmuAttestArm}
 
 -- ---- limits of the buffers, in bytes
 
@@ -43,284 +43,284 @@ nvContents l = buffer 2 2048 l
 -- ---- digests, ciphers and schemes: kinds 1 to 8
 
 -- TPMS_SCHEME_HASH: a hash code
-unfoldable pub schemeHash : Layout
-schemeHash = one 2 alg
+unfoldable pub tpmsSchemeHash : Layout
+tpmsSchemeHash = one 2 alg
 
 -- TPMS_SCHEME_XOR: a hash code and a KDF code
-unfoldable pub schemeXor : Layout
-schemeXor = number 2 alg (λ hashAlg. one 2 alg)
+unfoldable pub tpmsSchemeXor : Layout
+tpmsSchemeXor = number 2 alg (λ hashAlg. one 2 alg)
 
 -- TPMU_HA: nothing, or a plain digest
-abbrev pub haBody : ℕ → Layout
-haBody zero = stop
-haBody (suc n) = plain n stop
+abbrev pub tpmuHaBody : ℕ → Layout
+tpmuHaBody zero = stop
+tpmuHaBody (suc n) = plain n stop
 
-unfoldable pub haBy : ℕ → Layout
-haBy v = union (digestArm v) haBody v
+unfoldable pub tpmuHa : ℕ → Layout
+tpmuHa v = union (tpmuHaArm v) tpmuHaBody v
 
 -- TPMU_ASYM_SCHEME: nothing, or a hash code
-abbrev pub asymBody : ℕ → Layout
-asymBody zero = stop
-asymBody (suc t) = schemeHash
+abbrev pub tpmuAsymSchemeBody : ℕ → Layout
+tpmuAsymSchemeBody zero = stop
+tpmuAsymSchemeBody (suc t) = tpmsSchemeHash
 
-unfoldable pub asymBy : ℕ → Layout
-asymBy v = union (asymArm v) asymBody v
+unfoldable pub tpmuAsymScheme : ℕ → Layout
+tpmuAsymScheme v = union (tpmuAsymSchemeArm v) tpmuAsymSchemeBody v
 
 -- TPMU_SIG_SCHEME: nothing, or a hash code; the Hmac arm is apart
-abbrev pub sigBody : ℕ → Layout
-sigBody zero = stop
-sigBody (suc t) = schemeHash
+abbrev pub tpmuSigSchemeBody : ℕ → Layout
+tpmuSigSchemeBody zero = stop
+tpmuSigSchemeBody (suc t) = tpmsSchemeHash
 
-unfoldable pub sigBy : ℕ → Layout
-sigBy v = union (sigArm v) sigBody v
+unfoldable pub tpmuSigScheme : ℕ → Layout
+tpmuSigScheme v = union (tpmuSigSchemeArm v) tpmuSigSchemeBody v
 
 -- TPMU_SCHEME_KEYEDHASH
-abbrev pub keyedhashCases : List Case
-keyedhashCases = case hmac schemeHash ∷ case xor schemeXor ∷ []
+abbrev pub tpmuKeyedhashSchemeCases : List Case
+tpmuKeyedhashSchemeCases = case hmac tpmsSchemeHash ∷ case xor tpmsSchemeXor ∷ []
 
-abbrev pub keyedhashBody : ℕ → Layout
-keyedhashBody t = by keyedhashCases t
+abbrev pub tpmuKeyedhashSchemeBody : ℕ → Layout
+tpmuKeyedhashSchemeBody t = by tpmuKeyedhashSchemeCases t
 
-unfoldable pub keyedhashBy : ℕ → Layout
-keyedhashBy v = union (keyedhashArm v) keyedhashBody v
+unfoldable pub tpmuKeyedhashScheme : ℕ → Layout
+tpmuKeyedhashScheme v = union (tpmuKeyedhashSchemeArm v) tpmuKeyedhashSchemeBody v
 
 -- TPMU_KDF_SCHEME
-abbrev pub kdfCases : List Case
-kdfCases = case mgf1 schemeHash ∷ case kdf1-sp800-56a schemeHash ∷ case kdf2 schemeHash ∷ case kdf1-sp800-108 schemeHash ∷ []
+abbrev pub tpmuKdfSchemeCases : List Case
+tpmuKdfSchemeCases = case mgf1 tpmsSchemeHash ∷ case kdf1-sp800-56a tpmsSchemeHash ∷ case kdf2 tpmsSchemeHash ∷ case kdf1-sp800-108 tpmsSchemeHash ∷ []
 
-abbrev pub kdfBody : ℕ → Layout
-kdfBody t = by kdfCases t
+abbrev pub tpmuKdfSchemeBody : ℕ → Layout
+tpmuKdfSchemeBody t = by tpmuKdfSchemeCases t
 
-unfoldable pub kdfBy : ℕ → Layout
-kdfBy v = union (kdfArm v) kdfBody v
+unfoldable pub tpmuKdfScheme : ℕ → Layout
+tpmuKdfScheme v = union (tpmuKdfSchemeArm v) tpmuKdfSchemeBody v
 
 -- TPMU_SYM_KEY_BITS: key bits, which are no count of bytes; of XOR a hash code
-abbrev pub keyBitsCases : List Case
-keyBitsCases = case aes (one 2 free) ∷ case sm4 (one 2 free) ∷ case camellia (one 2 free) ∷ case xor (one 2 alg) ∷ []
+abbrev pub tpmuSymKeyBitsCases : List Case
+tpmuSymKeyBitsCases = case aes (one 2 free) ∷ case sm4 (one 2 free) ∷ case camellia (one 2 free) ∷ case xor (one 2 alg) ∷ []
 
-abbrev pub keyBitsBody : ℕ → Layout
-keyBitsBody t = by keyBitsCases t
+abbrev pub tpmuSymKeyBitsBody : ℕ → Layout
+tpmuSymKeyBitsBody t = by tpmuSymKeyBitsCases t
 
-unfoldable pub keyBitsBy : ℕ → Layout
-keyBitsBy v = union (cipherArm v) keyBitsBody v
+unfoldable pub tpmuSymKeyBits : ℕ → Layout
+tpmuSymKeyBits v = union (cipherArm v) tpmuSymKeyBitsBody v
 
 -- TPMU_SYM_MODE: a mode; XOR has one too, as in the crate
-abbrev pub modeCases : List Case
-modeCases = case aes (one 2 alg) ∷ case sm4 (one 2 alg) ∷ case camellia (one 2 alg) ∷ case xor (one 2 alg) ∷ []
+abbrev pub tpmuSymModeCases : List Case
+tpmuSymModeCases = case aes (one 2 alg) ∷ case sm4 (one 2 alg) ∷ case camellia (one 2 alg) ∷ case xor (one 2 alg) ∷ []
 
-abbrev pub modeBody : ℕ → Layout
-modeBody t = by modeCases t
+abbrev pub tpmuSymModeBody : ℕ → Layout
+tpmuSymModeBody t = by tpmuSymModeCases t
 
-unfoldable pub modeBy : ℕ → Layout
-modeBy v = union (cipherArm v) modeBody v
+unfoldable pub tpmuSymMode : ℕ → Layout
+tpmuSymMode v = union (cipherArm v) tpmuSymModeBody v
 
 -- ---- kinds 1 to 8
 
 -- kind 1, TPMT_HA
-unfoldable pub ha : Layout
-ha = number 2 alg (λ hashAlg. haBy hashAlg)
+unfoldable pub tpmtHa : Layout
+tpmtHa = number 2 alg (λ hashAlg. tpmuHa hashAlg)
 
 -- kind 2, TPMT_SYM_DEF: a Null cipher has neither key bits nor mode
-unfoldable pub symDef : Layout
-symDef = number 2 alg (λ algorithm. keyBitsBy algorithm then modeBy algorithm)
+unfoldable pub tpmtSymDef : Layout
+tpmtSymDef = number 2 alg (λ algorithm. tpmuSymKeyBits algorithm then tpmuSymMode algorithm)
 
 -- kind 3, TPMT_KDF_SCHEME
-unfoldable pub kdfScheme : Layout
-kdfScheme = number 2 alg (λ scheme. kdfBy scheme)
+unfoldable pub tpmtKdfScheme : Layout
+tpmtKdfScheme = number 2 alg (λ scheme. tpmuKdfScheme scheme)
 
 -- kind 4, TPMT_KEYEDHASH_SCHEME
-unfoldable pub keyedhashScheme : Layout
-keyedhashScheme = number 2 alg (λ scheme. keyedhashBy scheme)
+unfoldable pub tpmtKeyedhashScheme : Layout
+tpmtKeyedhashScheme = number 2 alg (λ scheme. tpmuKeyedhashScheme scheme)
 
 -- kind 5, TPMT_SIG_SCHEME
-unfoldable pub sigScheme : Layout
-sigScheme = number 2 alg (λ scheme. sigBy scheme)
+unfoldable pub tpmtSigScheme : Layout
+tpmtSigScheme = number 2 alg (λ scheme. tpmuSigScheme scheme)
 
 -- kinds 6, 7 and 8, TPMT_RSA_SCHEME, TPMT_ECC_SCHEME and TPMT_RSA_DECRYPT
-unfoldable pub asymScheme : Layout
-asymScheme = number 2 alg (λ scheme. asymBy scheme)
+unfoldable pub tpmtAsymScheme : Layout
+tpmtAsymScheme = number 2 alg (λ scheme. tpmuAsymScheme scheme)
 
 -- ---- keys
 
 -- TPMS_RSA_PARMS
-unfoldable pub rsaParms : Layout
-rsaParms =
-    symDef
-    then asymScheme
+unfoldable pub tpmsRsaParms : Layout
+tpmsRsaParms =
+    tpmtSymDef
+    then tpmtAsymScheme
     then number 2 free (λ keyBits. number 4 free (λ exponent. stop))
 
 -- TPMS_ECC_PARMS
-unfoldable pub eccParms : Layout
-eccParms =
-    symDef
-    then asymScheme
-    then number 2 curve (λ curveID. kdfScheme)
+unfoldable pub tpmsEccParms : Layout
+tpmsEccParms =
+    tpmtSymDef
+    then tpmtAsymScheme
+    then number 2 curve (λ curveID. tpmtKdfScheme)
 
 -- TPMU_PUBLIC_PARMS
-abbrev pub parmsCases : List Case
-parmsCases = case keyedHash keyedhashScheme ∷ case symCipher symDef ∷ case rsa rsaParms ∷ case ecc eccParms ∷ []
+abbrev pub tpmuPublicParmsCases : List Case
+tpmuPublicParmsCases = case keyedHash tpmtKeyedhashScheme ∷ case symCipher tpmtSymDef ∷ case rsa tpmsRsaParms ∷ case ecc tpmsEccParms ∷ []
 
-abbrev pub parmsBody : ℕ → Layout
-parmsBody t = by parmsCases t
+abbrev pub tpmuPublicParmsBody : ℕ → Layout
+tpmuPublicParmsBody t = by tpmuPublicParmsCases t
 
-unfoldable pub parmsBy : ℕ → Layout
-parmsBy v = union (typeArm v) parmsBody v
+unfoldable pub tpmuPublicParms : ℕ → Layout
+tpmuPublicParms v = union (typeArm v) tpmuPublicParmsBody v
 
 -- TPMS_ECC_POINT: x and y
-unfoldable pub eccPoint : Layout
-eccPoint = eccParameter (eccParameter stop)
+unfoldable pub tpmsEccPoint : Layout
+tpmsEccPoint = eccParameter (eccParameter stop)
 
 -- TPMU_PUBLIC_ID
-abbrev pub uniqueCases : List Case
-uniqueCases = case keyedHash (digest stop) ∷ case symCipher (symKey stop) ∷ case rsa (publicKeyRsa stop) ∷ case ecc eccPoint ∷ []
+abbrev pub tpmuPublicIdCases : List Case
+tpmuPublicIdCases = case keyedHash (digest stop) ∷ case symCipher (symKey stop) ∷ case rsa (publicKeyRsa stop) ∷ case ecc tpmsEccPoint ∷ []
 
-abbrev pub uniqueBody : ℕ → Layout
-uniqueBody t = by uniqueCases t
+abbrev pub tpmuPublicIdBody : ℕ → Layout
+tpmuPublicIdBody t = by tpmuPublicIdCases t
 
-unfoldable pub uniqueBy : ℕ → Layout
-uniqueBy v = union (typeArm v) uniqueBody v
+unfoldable pub tpmuPublicId : ℕ → Layout
+tpmuPublicId v = union (typeArm v) tpmuPublicIdBody v
 
 -- TPMU_SENSITIVE_COMPOSITE
-abbrev pub sensitiveCases : List Case
-sensitiveCases = case rsa (privateData stop) ∷ case ecc (eccParameter stop) ∷ case keyedHash (privateData stop) ∷ case symCipher (symKey stop) ∷ []
+abbrev pub tpmuSensitiveCompositeCases : List Case
+tpmuSensitiveCompositeCases = case rsa (privateData stop) ∷ case ecc (eccParameter stop) ∷ case keyedHash (privateData stop) ∷ case symCipher (symKey stop) ∷ []
 
-abbrev pub sensitiveBody : ℕ → Layout
-sensitiveBody t = by sensitiveCases t
+abbrev pub tpmuSensitiveCompositeBody : ℕ → Layout
+tpmuSensitiveCompositeBody t = by tpmuSensitiveCompositeCases t
 
-unfoldable pub sensitiveBy : ℕ → Layout
-sensitiveBy v = union (sensitiveArm v) sensitiveBody v
+unfoldable pub tpmuSensitiveComposite : ℕ → Layout
+tpmuSensitiveComposite v = union (tpmuSensitiveCompositeArm v) tpmuSensitiveCompositeBody v
 
 -- TPMS_SIGNATURE_RSA: hash, sig
-unfoldable pub signatureRsa : Layout
-signatureRsa = number 2 alg (λ hashAlg. publicKeyRsa stop)
+unfoldable pub tpmsSignatureRsa : Layout
+tpmsSignatureRsa = number 2 alg (λ hashAlg. publicKeyRsa stop)
 
 -- TPMS_SIGNATURE_ECC: hash, r, s
-unfoldable pub signatureEcc : Layout
-signatureEcc = number 2 alg (λ hashAlg. eccParameter (eccParameter stop))
+unfoldable pub tpmsSignatureEcc : Layout
+tpmsSignatureEcc = number 2 alg (λ hashAlg. eccParameter (eccParameter stop))
 
 -- TPMU_SIGNATURE
-abbrev pub signatureCases : List Case
-signatureCases = case rsassa signatureRsa ∷ case rsapss signatureRsa
-    ∷ case ecdsa signatureEcc ∷ case ecdaa signatureEcc ∷ case sm2 signatureEcc ∷ case ecschnorr signatureEcc
-    ∷ case hmac ha
+abbrev pub tpmuSignatureCases : List Case
+tpmuSignatureCases = case rsassa tpmsSignatureRsa ∷ case rsapss tpmsSignatureRsa
+    ∷ case ecdsa tpmsSignatureEcc ∷ case ecdaa tpmsSignatureEcc ∷ case sm2 tpmsSignatureEcc ∷ case ecschnorr tpmsSignatureEcc
+    ∷ case hmac tpmtHa
     ∷ []
 
-abbrev pub signatureBody : ℕ → Layout
-signatureBody t = by signatureCases t
+abbrev pub tpmuSignatureBody : ℕ → Layout
+tpmuSignatureBody t = by tpmuSignatureCases t
 
-unfoldable pub signatureBy : ℕ → Layout
-signatureBy v = union (signatureArm v) signatureBody v
+unfoldable pub tpmuSignature : ℕ → Layout
+tpmuSignature v = union (tpmuSignatureArm v) tpmuSignatureBody v
 
 -- kind 9, TPMT_PUBLIC_PARMS
-unfoldable pub publicParms : Layout
-publicParms = number 2 alg (λ type. parmsBy type)
+unfoldable pub tpmtPublicParms : Layout
+tpmtPublicParms = number 2 alg (λ type. tpmuPublicParms type)
 
 -- kind 10, TPMT_SIGNATURE
-unfoldable pub signature : Layout
-signature = number 2 alg (λ sigAlg. signatureBy sigAlg)
+unfoldable pub tpmtSignature : Layout
+tpmtSignature = number 2 alg (λ sigAlg. tpmuSignature sigAlg)
 
 -- kind 11, TPMT_PUBLIC: both arms by type
-unfoldable pub publicArea : Layout
-publicArea =
+unfoldable pub tpmtPublic : Layout
+tpmtPublic =
     number 2 alg (λ type.
     number 2 alg (λ nameAlg.
     number 4 free (λ objectAttributes.
     digest (
-    parmsBy type then uniqueBy type))))
+    tpmuPublicParms type then tpmuPublicId type))))
 
 -- kind 12, TPMT_SENSITIVE
-unfoldable pub sensitive : Layout
-sensitive =
+unfoldable pub tpmtSensitive : Layout
+tpmtSensitive =
     number 2 alg (λ sensitiveType.
     digest (
     digest (
-    sensitiveBy sensitiveType)))
+    tpmuSensitiveComposite sensitiveType)))
 
 -- ---- PCR selections and attestations: kinds 14 and 13
 
 -- TPMS_PCR_SELECTION: hash, size and so many bytes of bits
-unfoldable pub pcrSelection : Layout
-pcrSelection = number 2 alg (λ hashAlg. buffer 1 4 stop)
+unfoldable pub tpmsPcrSelection : Layout
+tpmsPcrSelection = number 2 alg (λ hashAlg. buffer 1 4 stop)
 
 -- kind 14, TPML_PCR_SELECTION
-unfoldable pub pcrSelections : Layout
-pcrSelections = counted 16 pcrSelection stop
+unfoldable pub tpmlPcrSelection : Layout
+tpmlPcrSelection = counted 16 tpmsPcrSelection stop
 
 -- TPMS_CLOCK_INFO
-unfoldable pub clockInfo : Layout
-clockInfo =
+unfoldable pub tpmsClockInfo : Layout
+tpmsClockInfo =
     number 8 free (λ clock.
     number 4 free (λ resetCount.
     number 4 free (λ restartCount.
     number 1 yesNo (λ safe. stop))))
 
 -- TPMS_CERTIFY_INFO: name, qualified name
-unfoldable pub certifyInfo : Layout
-certifyInfo = name (name stop)
+unfoldable pub tpmsCertifyInfo : Layout
+tpmsCertifyInfo = name (name stop)
 
 -- TPMS_CREATION_INFO: object name, creation hash
-unfoldable pub creationInfo : Layout
-creationInfo = name (digest stop)
+unfoldable pub tpmsCreationInfo : Layout
+tpmsCreationInfo = name (digest stop)
 
 -- TPMS_QUOTE_INFO: PCR selections, PCR digest
-unfoldable pub quoteInfo : Layout
-quoteInfo = pcrSelections then digest stop
+unfoldable pub tpmsQuoteInfo : Layout
+tpmsQuoteInfo = tpmlPcrSelection then digest stop
 
 -- TPMS_COMMAND_AUDIT_INFO: audit digest and command digest last
-unfoldable pub commandAuditInfo : Layout
-commandAuditInfo = number 8 free (λ auditCounter. number 2 alg (λ digestAlg. digest (digest stop)))
+unfoldable pub tpmsCommandAuditInfo : Layout
+tpmsCommandAuditInfo = number 8 free (λ auditCounter. number 2 alg (λ digestAlg. digest (digest stop)))
 
 -- TPMS_SESSION_AUDIT_INFO
-unfoldable pub sessionAuditInfo : Layout
-sessionAuditInfo = number 1 yesNo (λ exclusiveSession. digest stop)
+unfoldable pub tpmsSessionAuditInfo : Layout
+tpmsSessionAuditInfo = number 1 yesNo (λ exclusiveSession. digest stop)
 
 -- TPMS_TIME_INFO
-unfoldable pub timeInfo : Layout
-timeInfo = number 8 free (λ time. clockInfo)
+unfoldable pub tpmsTimeInfo : Layout
+tpmsTimeInfo = number 8 free (λ time. tpmsClockInfo)
 
 -- TPMS_TIME_ATTEST_INFO: time and clock, then firmware
-unfoldable pub timeAttestInfo : Layout
-timeAttestInfo = timeInfo then one 8 free
+unfoldable pub tpmsTimeAttestInfo : Layout
+tpmsTimeAttestInfo = tpmsTimeInfo then one 8 free
 
 -- TPMS_NV_CERTIFY_INFO: index name, offset, contents
-unfoldable pub nvCertifyInfo : Layout
-nvCertifyInfo = name (number 2 free (λ offset. nvContents stop))
+unfoldable pub tpmsNvCertifyInfo : Layout
+tpmsNvCertifyInfo = name (number 2 free (λ offset. nvContents stop))
 
 -- TPMS_NV_DIGEST_CERTIFY_INFO: index name, digest
-unfoldable pub nvDigestCertifyInfo : Layout
-nvDigestCertifyInfo = name (digest stop)
+unfoldable pub tpmsNvDigestCertifyInfo : Layout
+tpmsNvDigestCertifyInfo = name (digest stop)
 
 -- TPMU_ATTEST
-abbrev pub attestCases : List Case
-attestCases = case attestCertify certifyInfo ∷ case attestCreation creationInfo ∷ case attestQuote quoteInfo
-    ∷ case attestCommandAudit commandAuditInfo ∷ case attestSessionAudit sessionAuditInfo ∷ case attestTime timeAttestInfo
-    ∷ case attestNv nvCertifyInfo ∷ case attestNvDigest nvDigestCertifyInfo
+abbrev pub tpmuAttestCases : List Case
+tpmuAttestCases = case attestCertify tpmsCertifyInfo ∷ case attestCreation tpmsCreationInfo ∷ case attestQuote tpmsQuoteInfo
+    ∷ case attestCommandAudit tpmsCommandAuditInfo ∷ case attestSessionAudit tpmsSessionAuditInfo ∷ case attestTime tpmsTimeAttestInfo
+    ∷ case attestNv tpmsNvCertifyInfo ∷ case attestNvDigest tpmsNvDigestCertifyInfo
     ∷ []
 
-abbrev pub attestBody : ℕ → Layout
-attestBody t = by attestCases t
+abbrev pub tpmuAttestBody : ℕ → Layout
+tpmuAttestBody t = by tpmuAttestCases t
 
-unfoldable pub attestBy : ℕ → Layout
-attestBy v = union (attestArm v) attestBody v
+unfoldable pub tpmuAttest : ℕ → Layout
+tpmuAttest v = union (tpmuAttestArm v) tpmuAttestBody v
 
 -- kind 13, TPMS_ATTEST
-unfoldable pub attest : Layout
-attest =
+unfoldable pub tpmsAttest : Layout
+tpmsAttest =
     number 4 magic (λ magic.
     number 2 attestation (λ type.
     name (
     qualifying (
-    clockInfo then
+    tpmsClockInfo then
     number 8 free (λ firmwareVersion.
-    attestBy type)))))
+    tpmuAttest type)))))
 
 -- ---- by number
 
 -- the kinds from 1 on; 0 is none
 unfoldable pub kinds : List Layout
 kinds =
-    ha ∷ symDef ∷ kdfScheme ∷ keyedhashScheme ∷ sigScheme ∷ asymScheme ∷ asymScheme ∷ asymScheme
-    ∷ publicParms ∷ signature ∷ publicArea ∷ sensitive ∷ attest ∷ pcrSelections
+    tpmtHa ∷ tpmtSymDef ∷ tpmtKdfScheme ∷ tpmtKeyedhashScheme ∷ tpmtSigScheme ∷ tpmtAsymScheme ∷ tpmtAsymScheme ∷ tpmtAsymScheme
+    ∷ tpmtPublicParms ∷ tpmtSignature ∷ tpmtPublic ∷ tpmtSensitive ∷ tpmsAttest ∷ tpmlPcrSelection
     ∷ []
 
 -- the numbers of the fourteen kinds

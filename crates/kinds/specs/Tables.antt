@@ -24,8 +24,8 @@ hmacHash = 2
 
 -- ---- a digest by its algorithm
 
-abbrev pub digestRows : List Row
-digestRows =
+abbrev pub tpmuHaRows : List Row
+tpmuHaRows =
     row sha1 (digestOf 20)
     ∷ row shake256-192 (digestOf 24)
     ∷ row sha256 (digestOf 32) ∷ row sm3-256 (digestOf 32) ∷ row sha3-256 (digestOf 32) ∷ row shake256-256 (digestOf 32)
@@ -36,24 +36,24 @@ digestRows =
 
 -- ---- schemes
 
-abbrev pub asymRows : List Row
-asymRows =
+abbrev pub tpmuAsymSchemeRows : List Row
+tpmuAsymSchemeRows =
     row rsaes empty ∷ row null empty
     ∷ row rsassa hash ∷ row rsapss hash ∷ row ecdsa hash ∷ row ecdaa hash ∷ row sm2 hash ∷ row ecschnorr hash ∷ row oaep hash ∷ row ecdh hash ∷ row ecmqv hash
     ∷ []
 
-abbrev pub sigRows : List Row
-sigRows =
+abbrev pub tpmuSigSchemeRows : List Row
+tpmuSigSchemeRows =
     row hmac hmacHash
     ∷ row rsassa hash ∷ row rsapss hash ∷ row ecdsa hash ∷ row ecdaa hash ∷ row sm2 hash ∷ row ecschnorr hash
     ∷ row null empty
     ∷ []
 
-abbrev pub keyedhashRows : List Row
-keyedhashRows = own hmac ∷ own xor ∷ own null ∷ []
+abbrev pub tpmuKeyedhashSchemeRows : List Row
+tpmuKeyedhashSchemeRows = own hmac ∷ own xor ∷ own null ∷ []
 
-abbrev pub kdfRows : List Row
-kdfRows = own mgf1 ∷ own kdf1-sp800-56a ∷ own kdf2 ∷ own kdf1-sp800-108 ∷ own null ∷ []
+abbrev pub tpmuKdfSchemeRows : List Row
+tpmuKdfSchemeRows = own mgf1 ∷ own kdf1-sp800-56a ∷ own kdf2 ∷ own kdf1-sp800-108 ∷ own null ∷ []
 
 -- ---- ciphers: key bits and mode are two unions with one table
 
@@ -65,33 +65,33 @@ cipherRows = own aes ∷ own sm4 ∷ own camellia ∷ own xor ∷ own null ∷ [
 abbrev pub typeRows : List Row
 typeRows = own keyedHash ∷ own symCipher ∷ own rsa ∷ own ecc ∷ own null ∷ []
 
-abbrev pub sensitiveRows : List Row
-sensitiveRows = own rsa ∷ own ecc ∷ own keyedHash ∷ own symCipher ∷ []
+abbrev pub tpmuSensitiveCompositeRows : List Row
+tpmuSensitiveCompositeRows = own rsa ∷ own ecc ∷ own keyedHash ∷ own symCipher ∷ []
 
-abbrev pub signatureRows : List Row
-signatureRows = own rsassa ∷ own rsapss ∷ own ecdsa ∷ own ecdaa ∷ own sm2 ∷ own ecschnorr ∷ own hmac ∷ own null ∷ []
+abbrev pub tpmuSignatureRows : List Row
+tpmuSignatureRows = own rsassa ∷ own rsapss ∷ own ecdsa ∷ own ecdaa ∷ own sm2 ∷ own ecschnorr ∷ own hmac ∷ own null ∷ []
 
 -- ---- attestations
 
-abbrev pub attestRows : List Row
-attestRows = own attestNv ∷ own attestCommandAudit ∷ own attestSessionAudit ∷ own attestCertify ∷ own attestQuote ∷ own attestTime ∷ own attestCreation ∷ own attestNvDigest ∷ []
+abbrev pub tpmuAttestRows : List Row
+tpmuAttestRows = own attestNv ∷ own attestCommandAudit ∷ own attestSessionAudit ∷ own attestCertify ∷ own attestQuote ∷ own attestTime ∷ own attestCreation ∷ own attestNvDigest ∷ []
 
 -- ---- the arm that a selector chooses
 
-unfoldable pub digestArm : ℕ → Choice
-digestArm v = look digestRows v
+unfoldable pub tpmuHaArm : ℕ → Choice
+tpmuHaArm v = look tpmuHaRows v
 
-unfoldable pub asymArm : ℕ → Choice
-asymArm v = look asymRows v
+unfoldable pub tpmuAsymSchemeArm : ℕ → Choice
+tpmuAsymSchemeArm v = look tpmuAsymSchemeRows v
 
-unfoldable pub sigArm : ℕ → Choice
-sigArm v = look sigRows v
+unfoldable pub tpmuSigSchemeArm : ℕ → Choice
+tpmuSigSchemeArm v = look tpmuSigSchemeRows v
 
-unfoldable pub keyedhashArm : ℕ → Choice
-keyedhashArm v = look keyedhashRows v
+unfoldable pub tpmuKeyedhashSchemeArm : ℕ → Choice
+tpmuKeyedhashSchemeArm v = look tpmuKeyedhashSchemeRows v
 
-unfoldable pub kdfArm : ℕ → Choice
-kdfArm v = look kdfRows v
+unfoldable pub tpmuKdfSchemeArm : ℕ → Choice
+tpmuKdfSchemeArm v = look tpmuKdfSchemeRows v
 
 unfoldable pub cipherArm : ℕ → Choice
 cipherArm v = look cipherRows v
@@ -99,11 +99,11 @@ cipherArm v = look cipherRows v
 unfoldable pub typeArm : ℕ → Choice
 typeArm v = look typeRows v
 
-unfoldable pub sensitiveArm : ℕ → Choice
-sensitiveArm v = look sensitiveRows v
+unfoldable pub tpmuSensitiveCompositeArm : ℕ → Choice
+tpmuSensitiveCompositeArm v = look tpmuSensitiveCompositeRows v
 
-unfoldable pub signatureArm : ℕ → Choice
-signatureArm v = look signatureRows v
+unfoldable pub tpmuSignatureArm : ℕ → Choice
+tpmuSignatureArm v = look tpmuSignatureRows v
 
-unfoldable pub attestArm : ℕ → Choice
-attestArm v = look attestRows v
+unfoldable pub tpmuAttestArm : ℕ → Choice
+tpmuAttestArm v = look tpmuAttestRows v

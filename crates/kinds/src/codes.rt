@@ -9,8 +9,8 @@ ghost use mathlib.Core.Path.{_≡_};
 ghost use Rattle.wire.specs.Layout.{one};
 ghost use Rattle.wire.specs.Reading.{read};
 ghost use Rattle.kinds.specs.Codes.{attestations, namedAlgorithms, isAlgorithm, isCurve, isAttestation, within, alg, curve, attestation};
-ghost use Rattle.kinds.specs.Tables.{digestArm, asymArm, sigArm, keyedhashArm, kdfArm, cipherArm, typeArm, sensitiveArm, signatureArm, attestArm};
-ghost use Rattle.kinds.specs.Answers.{algAnswer, curveAnswer, attestationAnswer, digestChoice};
+ghost use Rattle.kinds.specs.Tables.{tpmuHaArm, tpmuAsymSchemeArm, tpmuSigSchemeArm, tpmuKeyedhashSchemeArm, tpmuKdfSchemeArm, cipherArm, typeArm, tpmuSensitiveCompositeArm, tpmuSignatureArm, tpmuAttestArm};
+ghost use Rattle.kinds.specs.Answers.{tpmAlgIdAnswer, tpmEccCurveAnswer, tpmStAnswer, digestChoice};
 
 pub struct TpmAlgId(pub u16);
 
@@ -18,17 +18,17 @@ pub struct TpmEccCurve(pub u16);
 
 pub struct TpmSt(pub u16);
 
-pub enum AlgRead {
+pub enum TpmAlgIdRead {
     Found(TpmAlgId, usize),
     No(Refusal),
 }
 
-pub enum CurveRead {
+pub enum TpmEccCurveRead {
     Found(TpmEccCurve, usize),
     No(Refusal),
 }
 
-pub enum StRead {
+pub enum TpmStRead {
     Found(TpmSt, usize),
     No(Refusal),
 }
@@ -176,25 +176,25 @@ impl TpmAlgId {
     }
 
     // An algorithm's code, read.
-    pub fn unmarshal(s: &[u8], at: usize) -> AlgRead
-        ensures { λ r. ⌜ algAnswer r ≡ read (one 2 alg) (now (s .entry)) at ⌝ }
+    pub fn unmarshal(s: &[u8], at: usize) -> TpmAlgIdRead
+        ensures { λ r. ⌜ tpmAlgIdAnswer r ≡ read (one 2 alg) (now (s .entry)) at ⌝ }
     {
         match uint16(s, at) {
             Uint16Read::Found(n, e) => {
                 let a = TpmAlgId(n);
                 if a.is_listed() {
-                    AlgRead::Found(a, e)
+                    TpmAlgIdRead::Found(a, e)
                 } else {
-                    AlgRead::No(Refusal::unknown_code(at, wide(n)))
+                    TpmAlgIdRead::No(Refusal::unknown_code(at, wide(n)))
                 }
             }
-            Uint16Read::No(f) => AlgRead::No(f),
+            Uint16Read::No(f) => TpmAlgIdRead::No(f),
         }
     }
 
     // The length of the algorithm's digest.
     pub fn digest_len(self) -> DigestLen
-        ensures { λ r. ⌜ digestChoice r ≡ digestArm (self .0) ⌝ }
+        ensures { λ r. ⌜ digestChoice r ≡ tpmuHaArm (self .0) ⌝ }
     {
         let a = self.0;
         match a {
@@ -212,7 +212,7 @@ impl TpmAlgId {
 
     // The arms that the algorithm chooses, where it is a union's selector.
     pub fn digest_arm(self) -> Choice
-        ensures { λ r. ⌜ r ≡ digestArm (self .0) ⌝ }
+        ensures { λ r. ⌜ r ≡ tpmuHaArm (self .0) ⌝ }
     {
         match self.digest_len() {
             DigestLen::Bytes(n) => Choice::The(n + 1),
@@ -222,7 +222,7 @@ impl TpmAlgId {
     }
 
     pub fn asym_arm(self) -> Choice
-        ensures { λ r. ⌜ r ≡ asymArm (self .0) ⌝ }
+        ensures { λ r. ⌜ r ≡ tpmuAsymSchemeArm (self .0) ⌝ }
     {
         let a = self.0;
         match a {
@@ -241,7 +241,7 @@ impl TpmAlgId {
     }
 
     pub fn sig_arm(self) -> Choice
-        ensures { λ r. ⌜ r ≡ sigArm (self .0) ⌝ }
+        ensures { λ r. ⌜ r ≡ tpmuSigSchemeArm (self .0) ⌝ }
     {
         let a = self.0;
         match a {
@@ -258,7 +258,7 @@ impl TpmAlgId {
     }
 
     pub fn keyedhash_arm(self) -> Choice
-        ensures { λ r. ⌜ r ≡ keyedhashArm (self .0) ⌝ }
+        ensures { λ r. ⌜ r ≡ tpmuKeyedhashSchemeArm (self .0) ⌝ }
     {
         let a = self.0;
         match a {
@@ -268,7 +268,7 @@ impl TpmAlgId {
     }
 
     pub fn kdf_arm(self) -> Choice
-        ensures { λ r. ⌜ r ≡ kdfArm (self .0) ⌝ }
+        ensures { λ r. ⌜ r ≡ tpmuKdfSchemeArm (self .0) ⌝ }
     {
         let a = self.0;
         match a {
@@ -308,7 +308,7 @@ impl TpmAlgId {
     }
 
     pub fn sensitive_arm(self) -> Choice
-        ensures { λ r. ⌜ r ≡ sensitiveArm (self .0) ⌝ }
+        ensures { λ r. ⌜ r ≡ tpmuSensitiveCompositeArm (self .0) ⌝ }
     {
         let a = self.0;
         match a {
@@ -320,7 +320,7 @@ impl TpmAlgId {
     }
 
     pub fn signature_arm(self) -> Choice
-        ensures { λ r. ⌜ r ≡ signatureArm (self .0) ⌝ }
+        ensures { λ r. ⌜ r ≡ tpmuSignatureArm (self .0) ⌝ }
     {
         let a = self.0;
         match a {
@@ -351,19 +351,19 @@ impl TpmEccCurve {
     }
 
     // A curve's code, read.
-    pub fn unmarshal(s: &[u8], at: usize) -> CurveRead
-        ensures { λ r. ⌜ curveAnswer r ≡ read (one 2 curve) (now (s .entry)) at ⌝ }
+    pub fn unmarshal(s: &[u8], at: usize) -> TpmEccCurveRead
+        ensures { λ r. ⌜ tpmEccCurveAnswer r ≡ read (one 2 curve) (now (s .entry)) at ⌝ }
     {
         match uint16(s, at) {
             Uint16Read::Found(n, e) => {
                 let c = TpmEccCurve(n);
                 if c.is_listed() {
-                    CurveRead::Found(c, e)
+                    TpmEccCurveRead::Found(c, e)
                 } else {
-                    CurveRead::No(Refusal::unknown_code(at, wide(n)))
+                    TpmEccCurveRead::No(Refusal::unknown_code(at, wide(n)))
                 }
             }
-            Uint16Read::No(f) => CurveRead::No(f),
+            Uint16Read::No(f) => TpmEccCurveRead::No(f),
         }
     }
 }
@@ -410,25 +410,25 @@ impl TpmSt {
     }
 
     // An attestation type's code, read.
-    pub fn unmarshal(s: &[u8], at: usize) -> StRead
-        ensures { λ r. ⌜ attestationAnswer r ≡ read (one 2 attestation) (now (s .entry)) at ⌝ }
+    pub fn unmarshal(s: &[u8], at: usize) -> TpmStRead
+        ensures { λ r. ⌜ tpmStAnswer r ≡ read (one 2 attestation) (now (s .entry)) at ⌝ }
     {
         match uint16(s, at) {
             Uint16Read::Found(n, e) => {
                 let t = TpmSt(n);
                 if t.is_listed() {
-                    StRead::Found(t, e)
+                    TpmStRead::Found(t, e)
                 } else {
-                    StRead::No(Refusal::unknown_code(at, wide(n)))
+                    TpmStRead::No(Refusal::unknown_code(at, wide(n)))
                 }
             }
-            Uint16Read::No(f) => StRead::No(f),
+            Uint16Read::No(f) => TpmStRead::No(f),
         }
     }
 
     // The arm of the attestation that the type chooses.
     pub fn attest_arm(self) -> Choice
-        ensures { λ r. ⌜ r ≡ attestArm (self .0) ⌝ }
+        ensures { λ r. ⌜ r ≡ tpmuAttestArm (self .0) ⌝ }
     {
         let t = self.0;
         if self.is_listed() {

@@ -16,9 +16,9 @@ use Rattle.wire.specs.Writing.{whole}
 use Rattle.wire.proofs.Steps.{found-same, parsed-same, next-found, when-found}
 use Rattle.wire.proofs.Cuts.{cut-length}
 use Rattle.kinds.specs.Codes.{alg}
-use Rattle.kinds.specs.Kinds.{pcrSelection}
+use Rattle.kinds.specs.Kinds.{tpmsPcrSelection}
 use Rattle.schemes.specs.declared.tpms.TpmsPcrSelection.{TpmsPcrSelection}
-use Rattle.schemes.specs.Parts.{pcrSelectionParts}
+use Rattle.schemes.specs.Parts.{tpmsPcrSelectionParts}
 use Rattle.plans.specs.declared.step.Step.{Step}
 use Rattle.plans.specs.declared.step.Word.{Word}
 use Rattle.plans.specs.Steps.{stepLines}
@@ -31,7 +31,7 @@ use Rattle.text.proofs.Rows.{number-line-length, bytes-line-length}
 use Rattle.listing.proofs.Parts.{text-append, item-text}
 
 abbrev left-lines : ℕ → List ℕ → ℕ → ℕ → List Line
-left-lines n xs e place = itemLines (λ qs ys a. lines pcrSelection qs ys a) (λ s a. read pcrSelection s a) n xs e place
+left-lines n xs e place = itemLines (λ qs ys a. lines tpmsPcrSelection qs ys a) (λ s a. read tpmsPcrSelection s a) n xs e place
 
 -- the items that were passed are put, and the lines of the others are left
 pub record Itemized (count : ℕ) (xs old : List ℕ) (place at : ℕ) (out : List ℕ) (e end i : ℕ) : Type 0 where
@@ -49,8 +49,8 @@ itemized-none count xs old place at =
 
 -- ---- an item that was read
 
-item-shape : (xs : List ℕ) (e : ℕ) {ps : List Part} {e′ : ℕ} → parsed ps e′ ≡ read pcrSelection xs e → (n : ℕ) × (m : ℕ) × (ps ≡ num n ∷ span (e + 2 + 1) m ∷ []) × (e′ ≡ e + 2 + 1 + m)
-unfolding read pcrSelection
+item-shape : (xs : List ℕ) (e : ℕ) {ps : List Part} {e′ : ℕ} → parsed ps e′ ≡ read tpmsPcrSelection xs e → (n : ℕ) × (m : ℕ) × (ps ≡ num n ∷ span (e + 2 + 1) m ∷ []) × (e′ ≡ e + 2 + 1 + m)
+unfolding read tpmsPcrSelection
 item-shape xs e p =
     let (n, a, q) = next-found (field 2 alg xs e) _ (sym p) in
     let (r, b, s) = next-found (next (field 1 (lengthTo 4) xs (e + 2)) _) _ q in
@@ -75,7 +75,7 @@ second-len (p ∷ tag t ∷ ps) = 0
 second-len (p ∷ span start len ∷ ps) = len
 
 -- its bits lie in the list, and it ends with them
-pub item-fits : (x : TpmsPcrSelection) (xs : List ℕ) (e : ℕ) {e′ : ℕ} → Bytes xs → parsed (pcrSelectionParts x) e′ ≡ read pcrSelection xs e
+pub item-fits : (x : TpmsPcrSelection) (xs : List ℕ) (e : ℕ) {e′ : ℕ} → Bytes xs → parsed (tpmsPcrSelectionParts x) e′ ≡ read tpmsPcrSelection xs e
     → (startOf (x .«pcr_select») + lenOf (x .«pcr_select») ≤ length xs) × (e′ ≡ e + 3 + lenOf (x .«pcr_select»)) × (e′ ≤ length xs)
 item-fits x xs e b p =
     let (n, m, parts, stops) = item-shape xs e p in
@@ -85,7 +85,7 @@ item-fits x xs e b p =
     (omega arith, omega arith, inside)
 
 item-length : (x : TpmsPcrSelection) (xs : List ℕ) (place : ℕ) → startOf (x .«pcr_select») + lenOf (x .«pcr_select») ≤ length xs
-    → length (linesText (lines pcrSelection (pcrSelectionParts x) xs place)) ≤ 190 + 2 * lenOf (x .«pcr_select»)
+    → length (linesText (lines tpmsPcrSelection (tpmsPcrSelectionParts x) xs place)) ≤ 190 + 2 * lenOf (x .«pcr_select»)
 item-length x xs place inside =
     let t = x .«pcr_select» in
     let a = lineText (line place 2 (aCode (x .hash .0))) in
@@ -111,11 +111,11 @@ module _ {count : ℕ} {xs old : List ℕ} {place at : ℕ} {out : List ℕ} {e 
   pub itemized-room : end ≤ at + (3040 + 2 * length xs)
   itemized-room = omega (arith, p .most, p .near, p .room)
 
-  pub itemized-more : (x : TpmsPcrSelection) {e′ r : ℕ} {last : List ℕ} → i < count → Bytes xs → parsed (pcrSelectionParts x) e′ ≡ read pcrSelection xs e
-      → Puts end (linesText (lines pcrSelection (pcrSelectionParts x) xs (place + e))) out r last → Itemized count xs old place at last e′ r (i + 1)
+  pub itemized-more : (x : TpmsPcrSelection) {e′ r : ℕ} {last : List ℕ} → i < count → Bytes xs → parsed (tpmsPcrSelectionParts x) e′ ≡ read tpmsPcrSelection xs e
+      → Puts end (linesText (lines tpmsPcrSelection (tpmsPcrSelectionParts x) xs (place + e))) out r last → Itemized count xs old place at last e′ r (i + 1)
   itemized-more x {e′} {r} {last} h b q put =
       let (inside, ends, within) = item-fits x xs e b q in
-      let ls = lines pcrSelection (pcrSelectionParts x) xs (place + e) in
+      let ls = lines tpmsPcrSelection (tpmsPcrSelectionParts x) xs (place + e) in
       let longer : linesText (p .done) ++ linesText ls ≡ linesText (p .done ++ ls) = sym (text-append (p .done) ls) in
       let next-items : count - i ≡ suc (count - (i + 1)) = omega arith in
       let rest : left-lines (count - i) xs e place ≡ ls ++ left-lines (count - (i + 1)) xs e′ place = rw (next-items, ← q) in
@@ -135,7 +135,7 @@ module _ {count : ℕ} {xs old : List ℕ} {place at : ℕ} {out : List ℕ} {e 
       let all : p .done ≡ left-lines count xs 4 place = sym (append-nil (p .done)) ∙ ap (λ n. p .done ++ left-lines n xs e place) (sym none) ∙ sym (p .whole) in
       subst (λ ls. Puts at (linesText ls) old end out) all (p .puts)
 
-  pub itemized-refused : {f : Refusal} → i < count → refused f ≡ read pcrSelection xs e → Puts at (linesText (left-lines count xs 4 place)) old end out
+  pub itemized-refused : {f : Refusal} → i < count → refused f ≡ read tpmsPcrSelection xs e → Puts at (linesText (left-lines count xs 4 place)) old end out
   itemized-refused {f} h q =
       let next-items : count - i ≡ suc (count - (i + 1)) = omega arith in
       let none : left-lines (count - i) xs e place ≡ [] = rw (next-items, ← q) in
@@ -145,10 +145,10 @@ module _ {count : ℕ} {xs old : List ℕ} {place at : ℕ} {out : List ℕ} {e 
 -- ---- a list that was judged
 
 -- it has 16 items at most
-pub count-few : (xs : List ℕ) {ys : List ℕ} → whole 16 pcrSelection xs ≡ found ys → be (take 4 xs) ≤ 16
+pub count-few : (xs : List ℕ) {ys : List ℕ} → whole 16 tpmsPcrSelection xs ≡ found ys → be (take 4 xs) ≤ 16
 unfolding whole list field piece
 count-few xs w =
-    let (e, l, q) = next-found (list 16 (λ s a. read pcrSelection s a) xs 0) _ w in
+    let (e, l, q) = next-found (list 16 (λ s a. read tpmsPcrSelection s a) xs 0) _ w in
     let (n, f, r) = next-found (field 4 (countTo 16) xs 0) _ l in
     let (zs, g, h) = next-found (piece 4 xs 0) _ f in
     let (t, same) = when-found (leb (be zs) 16) _ _ h in

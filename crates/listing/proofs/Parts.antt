@@ -13,7 +13,7 @@ use Rattle.wire.proofs.Steps.{when-found}
 use Rattle.wire.proofs.Cuts.{cut-length}
 use Rattle.wire.specs.Reading.{num, found}
 use Rattle.listing.specs.Listable.{IsSelections}
-use Rattle.kinds.specs.Kinds.{pcrSelection}
+use Rattle.kinds.specs.Kinds.{tpmsPcrSelection}
 use Rattle.plans.specs.Lines.{Line, line, aCode, aNumber, theBytes, spanLine, lines}
 use Rattle.plans.specs.declared.step.Word.{Word}
 use Rattle.text.specs.Text.{lineText, linesText}
@@ -48,8 +48,8 @@ code-same place size e = ap (λ k. lineText (line place size (aCode k))) e
 -- the lines of an item
 pub item-text : (hash place : ℕ) (t : Span) (xs : List ℕ)
     → lineText (line place 2 (aCode hash)) ++ (lineText (line (place + 2) 1 (aNumber (lenOf t))) ++ lineText (spanLine (place + 3) (startOf t) (lenOf t) xs))
-    ≡ linesText (lines pcrSelection (num hash ∷ spanPart t ∷ []) xs place)
-unfolding lines pcrSelection
+    ≡ linesText (lines tpmsPcrSelection (num hash ∷ spanPart t ∷ []) xs place)
+unfolding lines tpmsPcrSelection
 item-text hash place t xs =
     let there : place + 3 ≡ place + 2 + 1 = omega arith in
     ap (λ x. lineText (line place 2 (aCode hash)) ++ (lineText (line (place + 2) 1 (aNumber (lenOf t))) ++ x))
@@ -57,12 +57,12 @@ item-text hash place t xs =
 
 -- the part of a list that was judged
 pub judged-part : (t : Span) (src : List ℕ) {xs : List ℕ} → IsSelections t src → xs ≡ partOf (cut src (startOf t) (lenOf t) 0)
-    → (whole 16 pcrSelection xs ≡ found xs) × (startOf t + lenOf t ≤ length src) × (xs ≡ take (lenOf t) (drop (startOf t) src)) × (length xs ≡ lenOf t)
+    → (whole 16 tpmsPcrSelection xs ≡ found xs) × (startOf t + lenOf t ≤ length src) × (xs ≡ take (lenOf t) (drop (startOf t) src)) × (length xs ≡ lenOf t)
 unfolding cut
 judged-part t src {xs} (there, list) part =
     let (test, e) = when-found (leb (startOf t + lenOf t) (length src)) _ _ there in
     let inside = leb-true (startOf t + lenOf t) (length src) test in
-    (subst (λ ys. whole 16 pcrSelection ys ≡ found ys) (sym part) list, inside, part-is t src inside part, part-length t src inside part)
+    (subst (λ ys. whole 16 tpmsPcrSelection ys ≡ found ys) (sym part) list, inside, part-is t src inside part, part-length t src inside part)
 
 -- how long a span's line is, and a buffer's two
 pub span-line-length : (place : ℕ) (t : Span) (src : List ℕ) → startOf t + lenOf t ≤ length src → length (linesText (spanLine place (startOf t) (lenOf t) src ∷ [])) ≤ 50 + 2 * lenOf t

@@ -14,7 +14,7 @@ use Rattle.wire.proofs.Cuts.{cut-length}
 use Rattle.wire.proofs.Steps.{next-found, when-found}
 use Rattle.wire.proofs.Then.{whole-same}
 use Rattle.wire.proofs.Written.{moved-found}
-use Rattle.kinds.specs.Kinds.{pcrSelection}
+use Rattle.kinds.specs.Kinds.{tpmsPcrSelection}
 use Rattle.plans.specs.declared.step.Step.{Step}
 use Rattle.plans.specs.declared.plan.Cell.{Cell}
 use Rattle.plans.specs.Lines.{Line}
@@ -39,11 +39,11 @@ cut-anywhere : (src : List ℕ) (start len at : ℕ) {xs : List ℕ} → cut src
 unfolding cut
 cut-anywhere src start len at p = let (t, e) = when-found (leb (start + len) (length src)) _ _ p in rw t e
 
-selections-judged : (xs : List ℕ) (src : List ℕ) (start len at : ℕ) {ys : List ℕ} → cut src start len at ≡ found xs → whole 16 pcrSelection xs ≡ found ys
-    → (cut src start len 0 ≡ found (partOf (cut src start len 0))) × (whole 16 pcrSelection (partOf (cut src start len 0)) ≡ found (partOf (cut src start len 0)))
+selections-judged : (xs : List ℕ) (src : List ℕ) (start len at : ℕ) {ys : List ℕ} → cut src start len at ≡ found xs → whole 16 tpmsPcrSelection xs ≡ found ys
+    → (cut src start len 0 ≡ found (partOf (cut src start len 0))) × (whole 16 tpmsPcrSelection (partOf (cut src start len 0)) ≡ found (partOf (cut src start len 0)))
 selections-judged xs src start len at p w =
     let here = cut-anywhere src start len at p in
-    rw here (refl, w ∙ ap found (whole-same 16 pcrSelection xs w))
+    rw here (refl, w ∙ ap found (whole-same 16 tpmsPcrSelection xs w))
 
 listable-is : (s : Step) (src : List ℕ) (at : ℕ) {xs : List ℕ} → spellStep s src at ≡ found xs → Inside s src → Listable s src
 unfolding spellStep
@@ -52,7 +52,7 @@ listable-is (Step.Plain n s) src at p i = i
 listable-is (Step.Buffer m s) src at p i = i
 listable-is (Step.Selections s) src at p i =
     let (xs, e, q) = next-found (cut src (startOf s) (lenOf s) at) _ p in
-    selections-judged xs src (startOf s) (lenOf s) at e (moved-found at (whole 16 pcrSelection xs) q)
+    selections-judged xs src (startOf s) (lenOf s) at e (moved-found at (whole 16 tpmsPcrSelection xs) q)
 listable-is (Step.Fails f) src at p i = tt
 
 -- the steps that were passed are put, and those from the i-th on are left

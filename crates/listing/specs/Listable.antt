@@ -7,14 +7,14 @@ use Rattle.wire.specs.declared.span.Span.{Span}
 use Rattle.wire.specs.Answers.{widthOf, startOf, lenOf}
 use Rattle.wire.specs.Reading.{found}
 use Rattle.wire.specs.Writing.{cut, whole, partOf}
-use Rattle.kinds.specs.Kinds.{pcrSelection}
+use Rattle.kinds.specs.Kinds.{tpmsPcrSelection}
 use Rattle.plans.specs.declared.step.Step.{Step}
 
 -- the span shows a selection list of src, and nothing else
 abbrev pub IsSelections : Span → List ℕ → Type 0
 IsSelections t src =
     (cut src (startOf t) (lenOf t) 0 ≡ found (partOf (cut src (startOf t) (lenOf t) 0)))
-    × (whole 16 pcrSelection (partOf (cut src (startOf t) (lenOf t) 0)) ≡ found (partOf (cut src (startOf t) (lenOf t) 0)))
+    × (whole 16 tpmsPcrSelection (partOf (cut src (startOf t) (lenOf t) 0)) ≡ found (partOf (cut src (startOf t) (lenOf t) 0)))
 
 -- a step whose lines can be put: its span lies in src, and that of a list shows a list
 abbrev pub Listable : Step → List ℕ → Type 0

@@ -3,8 +3,8 @@ use kinds::uint::Uint32Read;
 use kinds::uint::uint32;
 use plans::step::Step;
 use plans::step::Word;
-use schemes::tpms::PcrSelectionRead;
 use schemes::tpms::TpmsPcrSelection;
+use schemes::tpms::TpmsPcrSelectionRead;
 use text::line::put_bytes_line;
 use text::line::put_number_line;
 use wire::span::Span;
@@ -14,8 +14,8 @@ ghost use Prim.Native.Nat.{_+_, _*_, _≤_};
 ghost use lib.ListN.{length};
 ghost use Rattle.wire.specs.Answers.{startOf, lenOf};
 ghost use Rattle.wire.specs.Reading.{read};
-ghost use Rattle.kinds.specs.Kinds.{pcrSelection};
-ghost use Rattle.schemes.specs.Parts.{pcrSelectionParts};
+ghost use Rattle.kinds.specs.Kinds.{tpmsPcrSelection};
+ghost use Rattle.schemes.specs.Parts.{tpmsPcrSelectionParts};
 ghost use Rattle.plans.specs.Lines.{lines, itemLines};
 ghost use Rattle.plans.specs.Steps.{stepLines};
 ghost use Rattle.plans.specs.Walked.{Puts};
@@ -26,7 +26,7 @@ ghost use Rattle.listing.specs.Listable.{IsSelections};
 fn put_item(x: TpmsPcrSelection, xs: &[u8], place: usize, out: &mut [u8], at: usize) -> usize
     requires { ⌜ (startOf (x .«pcr_select») + lenOf (x .«pcr_select») ≤ length (now xs)) × (place ≤ 0x1000000)
         × (at + (190 + 2 * lenOf (x .«pcr_select»)) ≤ length (now out)) ⌝ }
-    ensures { λ r. ⌜ Puts at (linesText (lines pcrSelection (pcrSelectionParts x) (now (xs .entry)) place)) (now (out .entry)) r (now (out .exit)) ⌝ }
+    ensures { λ r. ⌜ Puts at (linesText (lines tpmsPcrSelection (tpmsPcrSelectionParts x) (now (xs .entry)) place)) (now (out .entry)) r (now (out .exit)) ⌝ }
 {
     let hash = x.hash;
     let bits = x.pcr_select;
@@ -40,7 +40,7 @@ fn put_item(x: TpmsPcrSelection, xs: &[u8], place: usize, out: &mut [u8], at: us
 // The lines of `count` items of xs, behind the list's count; the list stands at `place`.
 fn put_items(xs: &[u8], count: usize, place: usize, out: &mut [u8], at: usize) -> usize
     requires { ⌜ (count ≤ 16) × (place ≤ 0x10000) × (length (now xs) ≤ 0x10000) × (at + (3040 + 2 * length (now xs)) ≤ length (now out)) ⌝ }
-    ensures { λ r. ⌜ Puts at (linesText (itemLines (λ qs ys a. lines pcrSelection qs ys a) (λ s a. read pcrSelection s a) count (now (xs .entry)) 4 place)) (now (out .entry)) r (now (out .exit))
+    ensures { λ r. ⌜ Puts at (linesText (itemLines (λ qs ys a. lines tpmsPcrSelection qs ys a) (λ s a. read tpmsPcrSelection s a) count (now (xs .entry)) 4 place)) (now (out .entry)) r (now (out .exit))
         × (r ≤ at + (3040 + 2 * length (now (xs .entry)))) ⌝ }
 {
     let mut e: usize = 4;
@@ -48,12 +48,12 @@ fn put_items(xs: &[u8], count: usize, place: usize, out: &mut [u8], at: usize) -
     let mut i: usize = 0;
     while i < count {
         match TpmsPcrSelection::unmarshal(xs, e) {
-            PcrSelectionRead::Found(x, next) => {
+            TpmsPcrSelectionRead::Found(x, next) => {
                 let start = place + e;
                 end = put_item(x, xs, start, out, end);
                 e = next;
             }
-            PcrSelectionRead::No(_) => {
+            TpmsPcrSelectionRead::No(_) => {
                 return end;
             }
         }

@@ -26,7 +26,7 @@ use Rattle.wire.proofs.Sound.{read-sound}
 use Rattle.wire.proofs.Cuts.{cut-length}
 use Rattle.wire.proofs.Then.{whole-same}
 use Rattle.wire.proofs.Written.{moved-found}
-use Rattle.kinds.specs.Kinds.{pcrSelection}
+use Rattle.kinds.specs.Kinds.{tpmsPcrSelection}
 use Rattle.plans.specs.Steps.{spellStep, listsOf}
 use Rattle.plans.specs.Walked.{after, placeAhead}
 use Rattle.plans.specs.declared.step.Step.{Step}
@@ -56,13 +56,13 @@ module _ (count : ℕ) (cells : List Cell) (i : ℕ) (asked : ℕ) (src : List �
 -- ---- the walk
 
 -- an item has a byte, and ends in the source
-some : {ts : List Token} {bs : List ℕ} → Spells pcrSelection ts bs → 0 < length bs
-unfolding pcrSelection
+some : {ts : List Token} {bs : List ℕ} → Spells tpmsPcrSelection ts bs → 0 < length bs
+unfolding tpmsPcrSelection
 some (says {cs = cs} n h a e d) = omega (arith, ap length e, length-append (digits 2 n) cs, length-digits 2 n)
 
-pub item-ends : (src : List ℕ) (at : ℕ) {ps : List Part} {e : ℕ} → Bytes src → parsed ps e ≡ read pcrSelection src at → (at ≤ e) × (e ≤ length src)
+pub item-ends : (src : List ℕ) (at : ℕ) {ps : List Part} {e : ℕ} → Bytes src → parsed ps e ≡ read tpmsPcrSelection src at → (at ≤ e) × (e ≤ length src)
 item-ends src at b p =
-    let d = read-sound pcrSelection src at _ b (sym p) in
+    let d = read-sound tpmsPcrSelection src at _ b (sym p) in
     (omega (arith, d .ends), omega (arith, d .ends, some (d .spells), stands-left (d .stands)))
 
 module _ (item : Reader Parsed) (src : List ℕ) (n index i at : ℕ) where
@@ -126,16 +126,16 @@ cut-of-part src start len {xs} a n p h =
 
 module _ (t : Span) (src : List ℕ) where
   pub legal-list : {k : ℕ} {xs : List ℕ} → found k ≡ after 0 (spellStep (Step.Selections t) src 0) → xs ≡ partOf (cut src (startOf t) (lenOf t) 0)
-      → (cut src (startOf t) (lenOf t) 0 ≡ found xs) × (whole 16 pcrSelection xs ≡ found xs)
+      → (cut src (startOf t) (lenOf t) 0 ≡ found xs) × (whole 16 tpmsPcrSelection xs ≡ found xs)
   unfolding spellStep
   legal-list p q =
-      let (bs, e, f) = next-found (next (cut src (startOf t) (lenOf t) 0) (λ xs. moved 0 (whole 16 pcrSelection xs))) _ (sym p) in
+      let (bs, e, f) = next-found (next (cut src (startOf t) (lenOf t) 0) (λ xs. moved 0 (whole 16 tpmsPcrSelection xs))) _ (sym p) in
       let (ys, g, h) = next-found (cut src (startOf t) (lenOf t) 0) _ e in
       let same : _ ≡ ys = q ∙ ap partOf g in
-      let w = moved-found 0 (whole 16 pcrSelection ys) h in
-      rw same (g, w ∙ ap found (whole-same 16 pcrSelection ys w))
+      let w = moved-found 0 (whole 16 tpmsPcrSelection ys) h in
+      rw same (g, w ∙ ap found (whole-same 16 tpmsPcrSelection ys w))
 
-  pub refused-list : (index : ℕ) {f : Refusal} → refused f ≡ after 0 (spellStep (Step.Selections t) src 0) → refused f ≡ itemOf 16 pcrSelection (spanPart t ∷ []) index src
+  pub refused-list : (index : ℕ) {f : Refusal} → refused f ≡ after 0 (spellStep (Step.Selections t) src 0) → refused f ≡ itemOf 16 tpmsPcrSelection (spanPart t ∷ []) index src
   unfolding spellStep itemOf
   refused-list index {f} p = by (cut src (startOf t) (lenOf t) 0) p
     where
@@ -146,24 +146,24 @@ module _ (t : Span) (src : List ℕ) where
       walked (found xs) k q = absurd (found-refused q)
       walked (refused g) k q = ap refused (refused-same q ∙ sym (here g))
 
-      by : (a : Ans (List ℕ)) → refused f ≡ after 0 (next a (λ xs. moved 0 (whole 16 pcrSelection xs)))
-          → refused f ≡ next a (λ xs. next (whole 16 pcrSelection xs) (λ ys. pickItem (λ s a. read pcrSelection s a) (be (take 4 ys)) index index ys 4))
-      by (found xs) q = walked (whole 16 pcrSelection xs) _ q
+      by : (a : Ans (List ℕ)) → refused f ≡ after 0 (next a (λ xs. moved 0 (whole 16 tpmsPcrSelection xs)))
+          → refused f ≡ next a (λ xs. next (whole 16 tpmsPcrSelection xs) (λ ys. pickItem (λ s a. read tpmsPcrSelection s a) (be (take 4 ys)) index index ys 4))
+      by (found xs) q = walked (whole 16 tpmsPcrSelection xs) _ q
       by (refused g) q = ap refused (refused-same q)
 
-  pub item-of-list : (index : ℕ) {xs : List ℕ} → (cut src (startOf t) (lenOf t) 0 ≡ found xs) × (whole 16 pcrSelection xs ≡ found xs)
-      → itemOf 16 pcrSelection (spanPart t ∷ []) index src ≡ pickItem (λ s a. read pcrSelection s a) (be (take 4 xs)) index index xs 4
+  pub item-of-list : (index : ℕ) {xs : List ℕ} → (cut src (startOf t) (lenOf t) 0 ≡ found xs) × (whole 16 tpmsPcrSelection xs ≡ found xs)
+      → itemOf 16 tpmsPcrSelection (spanPart t ∷ []) index src ≡ pickItem (λ s a. read tpmsPcrSelection s a) (be (take 4 xs)) index index xs 4
   unfolding itemOf
   item-of-list index (p, q) = rw (p, q)
 
 -- the count of a list that was judged is there
 module _ (xs : List ℕ) where
-  count-read : (b : Bool) → leb 4 (left xs 0) ≡ b → (read (one 4 free) xs 0 ≡ parsed (num (be (take 4 xs)) ∷ []) 4) ⊎ (whole 16 pcrSelection xs ≡ refused (short 0 4))
+  count-read : (b : Bool) → leb 4 (left xs 0) ≡ b → (read (one 4 free) xs 0 ≡ parsed (num (be (take 4 xs)) ∷ []) 4) ⊎ (whole 16 tpmsPcrSelection xs ≡ refused (short 0 4))
   unfolding read field piece whole list
   count-read true t = inl (rw t)
   count-read false t = inr (rw t)
 
-  pub count-is : {n e : ℕ} {ys : List ℕ} → whole 16 pcrSelection xs ≡ found ys → parsed (num n ∷ []) e ≡ read (one 4 free) xs 0 → n ≡ be (take 4 xs)
+  pub count-is : {n e : ℕ} {ys : List ℕ} → whole 16 tpmsPcrSelection xs ≡ found ys → parsed (num n ∷ []) e ≡ read (one 4 free) xs 0 → n ≡ be (take 4 xs)
   count-is {n} w p = ⊎-elim (λ q. number-same (parsed-same (p ∙ q) .0)) (λ q. absurd (found-refused (sym q ∙ w))) (count-read (leb 4 (left xs 0)) refl)
     where
       first : List Part → ℕ
@@ -175,7 +175,7 @@ module _ (xs : List ℕ) where
       number-same : {m : ℕ} → num n ∷ [] ≡ num m ∷ [] → n ≡ m
       number-same q = ap first q
 
-  pub count-there : {f : Refusal} {ys : List ℕ} → whole 16 pcrSelection xs ≡ found ys → refused f ≡ read (one 4 free) xs 0 → ⊥
+  pub count-there : {f : Refusal} {ys : List ℕ} → whole 16 tpmsPcrSelection xs ≡ found ys → refused f ≡ read (one 4 free) xs 0 → ⊥
   count-there w p = ⊎-elim (λ q. found-refused (p ∙ q)) (λ q. found-refused (sym q ∙ w)) (count-read (leb 4 (left xs 0)) refl)
 
 -- a span that is made of a start and a length
@@ -198,7 +198,7 @@ new-inside e h = omega (arith, ap end-of e)
 -- ---- the item in the source
 
 abbrev Judged : Span → (src xs : List ℕ) → Type 0
-Judged t src xs = (cut src (startOf t) (lenOf t) 0 ≡ found xs) × (whole 16 pcrSelection xs ≡ found xs)
+Judged t src xs = (cut src (startOf t) (lenOf t) 0 ≡ found xs) × (whole 16 tpmsPcrSelection xs ≡ found xs)
 
 module _ (t : Span) (src : List ℕ) {xs : List ℕ} (judged : Judged t src xs) where
   -- what lies in the list lies in the source
@@ -210,23 +210,23 @@ module _ (t : Span) (src : List ℕ) {xs : List ℕ} (judged : Judged t src xs) 
       omega (arith, ap length (sym (found-same e)), cut-length src (startOf t) (lenOf t) 0 inside)
 
   -- the item that was walked to
-  pub item-found : (index : ℕ) {n : ℕ} (i : Span) → n ≡ be (take 4 xs) → cut xs (startOf i) (lenOf i) 0 ≡ pickItem (λ s a. read pcrSelection s a) n index index xs 4
-      → startOf i + lenOf i ≤ length xs → cut src (startOf t + startOf i) (lenOf i) 0 ≡ itemOf 16 pcrSelection (spanPart t ∷ []) index src
+  pub item-found : (index : ℕ) {n : ℕ} (i : Span) → n ≡ be (take 4 xs) → cut xs (startOf i) (lenOf i) 0 ≡ pickItem (λ s a. read tpmsPcrSelection s a) n index index xs 4
+      → startOf i + lenOf i ≤ length xs → cut src (startOf t + startOf i) (lenOf i) 0 ≡ itemOf 16 tpmsPcrSelection (spanPart t ∷ []) index src
   item-found index i count walked inside =
       cut-of-part src (startOf t) (lenOf t) (startOf i) (lenOf i) (judged .0) inside
-      ∙ walked ∙ ap (λ n. pickItem (λ s a. read pcrSelection s a) n index index xs 4) count ∙ sym (item-of-list t src index judged)
+      ∙ walked ∙ ap (λ n. pickItem (λ s a. read tpmsPcrSelection s a) n index index xs 4) count ∙ sym (item-of-list t src index judged)
 
   -- or why there is none
-  pub item-refused : (index : ℕ) {n : ℕ} {f : Refusal} → n ≡ be (take 4 xs) → refused f ≡ pickItem (λ s a. read pcrSelection s a) n index index xs 4
-      → refused f ≡ itemOf 16 pcrSelection (spanPart t ∷ []) index src
-  item-refused index count walked = walked ∙ ap (λ n. pickItem (λ s a. read pcrSelection s a) n index index xs 4) count ∙ sym (item-of-list t src index judged)
+  pub item-refused : (index : ℕ) {n : ℕ} {f : Refusal} → n ≡ be (take 4 xs) → refused f ≡ pickItem (λ s a. read tpmsPcrSelection s a) n index index xs 4
+      → refused f ≡ itemOf 16 tpmsPcrSelection (spanPart t ∷ []) index src
+  item-refused index count walked = walked ∙ ap (λ n. pickItem (λ s a. read tpmsPcrSelection s a) n index index xs 4) count ∙ sym (item-of-list t src index judged)
 
 -- lists that begin alike have the same items
-pub of-the-list : (ls ms : List Part) (index : ℕ) (src : List ℕ) → pickField ls 0 index src ≡ pickField ms 0 index src → itemOf 16 pcrSelection ls index src ≡ itemOf 16 pcrSelection ms index src
+pub of-the-list : (ls ms : List Part) (index : ℕ) (src : List ℕ) → pickField ls 0 index src ≡ pickField ms 0 index src → itemOf 16 tpmsPcrSelection ls index src ≡ itemOf 16 tpmsPcrSelection ms index src
 unfolding itemOf
-of-the-list ls ms index src p = ap (λ a. next a (λ xs. next (whole 16 pcrSelection xs) (λ ys. pickItem (λ s a. read pcrSelection s a) (be (take 4 ys)) index index ys 4))) p
+of-the-list ls ms index src p = ap (λ a. next a (λ xs. next (whole 16 tpmsPcrSelection xs) (λ ys. pickItem (λ s a. read tpmsPcrSelection s a) (be (take 4 ys)) index index ys 4))) p
 
 -- and without a list there are none
-pub no-list : (ms : List Part) (index : ℕ) (src : List ℕ) → refused (noField index) ≡ pickField ms 0 index src → refused (noField index) ≡ itemOf 16 pcrSelection ms index src
+pub no-list : (ms : List Part) (index : ℕ) (src : List ℕ) → refused (noField index) ≡ pickField ms 0 index src → refused (noField index) ≡ itemOf 16 tpmsPcrSelection ms index src
 unfolding itemOf
 no-list ms index src p = rw (← p)

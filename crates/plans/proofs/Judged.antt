@@ -17,7 +17,7 @@ use Rattle.wire.proofs.Digits.{length-digits}
 use Rattle.wire.proofs.Steps.{found-same}
 use Rattle.wire.proofs.Cuts.{sized-part, unsized}
 use Rattle.wire.proofs.Written.{cut-found}
-use Rattle.kinds.specs.Kinds.{pcrSelection}
+use Rattle.kinds.specs.Kinds.{tpmsPcrSelection}
 use Rattle.plans.specs.Steps.{spellStep}
 use Rattle.plans.specs.Walked.{after}
 use Rattle.plans.specs.declared.step.Word.{Word}
@@ -81,18 +81,18 @@ module _ (s : Span) (src : List ℕ) (at : ℕ) where
     pub list-size : length xs ≡ n
     list-size = ap length q ∙ sized-length src (startOf s) (lenOf s) at p .1 ∙ sym (sized-length src (startOf s) (lenOf s) at p .0)
 
-    pub list-good : {e : ℕ} → found e ≡ list 16 (λ s a. read pcrSelection s a) xs 0 → e ≡ n → found (at + e) ≡ after at (spellStep (Step.Selections s) src at)
+    pub list-good : {e : ℕ} → found e ≡ list 16 (λ s a. read tpmsPcrSelection s a) xs 0 → e ≡ n → found (at + e) ≡ after at (spellStep (Step.Selections s) src at)
     unfolding spellStep whole
     list-good {e} l same =
         rw (sized-part src (startOf s) (lenOf s) at p, ← q, ← l, eq-eqb e (length xs) (same ∙ sym list-size)) (ap (λ k. found (at + k)) (same ∙ sym list-size))
 
-    pub list-trailing : {e : ℕ} → found e ≡ list 16 (λ s a. read pcrSelection s a) xs 0 → (e ≡ n → ⊥)
+    pub list-trailing : {e : ℕ} → found e ≡ list 16 (λ s a. read tpmsPcrSelection s a) xs 0 → (e ≡ n → ⊥)
         → refused (trailing (at + e) (n - e)) ≡ after at (spellStep (Step.Selections s) src at)
     unfolding spellStep whole
     list-trailing {e} l other =
         rw (sized-part src (startOf s) (lenOf s) at p, ← q, ← l, ne-eqb e (length xs) (λ same. other (same ∙ list-size))) (ap (λ k. refused (trailing (at + e) (k - e))) (sym list-size))
 
-    pub list-no : {f : Refusal} → refused f ≡ list 16 (λ s a. read pcrSelection s a) xs 0 → refused (further at f) ≡ after at (spellStep (Step.Selections s) src at)
+    pub list-no : {f : Refusal} → refused f ≡ list 16 (λ s a. read tpmsPcrSelection s a) xs 0 → refused (further at f) ≡ after at (spellStep (Step.Selections s) src at)
     unfolding spellStep whole
     list-no l = rw (sized-part src (startOf s) (lenOf s) at p, ← q, ← l)
 

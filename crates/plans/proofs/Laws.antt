@@ -22,7 +22,7 @@ use Rattle.wire.proofs.Digits.{length-digits}
 use Rattle.wire.proofs.Steps.{found-refused, found-same, next-found, when-found}
 use Rattle.wire.proofs.Then.{onto-none, onto-onto, lay-then, shaped-then, whole-same}
 use Rattle.wire.proofs.Written.{spelt-found, cut-found, moved-found}
-use Rattle.kinds.specs.Kinds.{pcrSelection, haBody}
+use Rattle.kinds.specs.Kinds.{tpmsPcrSelection, tpmuHaBody}
 use Rattle.plans.specs.Steps.{steps, wordOf, laid, stepLines, linesOf, spell, spellStep, spansOf, listsOf, Pushed, Plans, Adds, numberStep, pickStep, Numbered, due, dueSize, unless}
 use Rattle.plans.specs.Lines.{line, aNumber, spanLine, sayNumber, lines}
 use Rattle.plans.specs.declared.plan.Plan.{Plan}
@@ -180,18 +180,18 @@ plans-plain {l} {ps} {ls} {ss} s a =
         by (refused f) e = refl
 
 plans-list : {l : Layout} {ps ls : List Part} {ss : List Step} (s : Span) → Plans l ps ls ss
-    → Plans (counted 16 pcrSelection l) (spanPart s ∷ ps) (spanPart s ∷ ls) (Step.Selections s ∷ ss)
+    → Plans (counted 16 tpmsPcrSelection l) (spanPart s ∷ ps) (spanPart s ∷ ls) (Step.Selections s ∷ ss)
 unfolding lay spell spellStep linesOf lines
 plans-list {l} {ps} {ls} {ss} s a =
     record {
       lays = λ src at.
-          cut-onto src (startOf s) (lenOf s) at (λ xs. moved at (whole 16 pcrSelection xs)) (λ e. lay l ps src e) (λ e. spell ss src e) (λ e. a .lays src e)
-          (λ xs ys p h. ap length (whole-same 16 pcrSelection xs (moved-found at (whole 16 pcrSelection xs) p)) ∙ h);
+          cut-onto src (startOf s) (lenOf s) at (λ xs. moved at (whole 16 tpmsPcrSelection xs)) (λ e. lay l ps src e) (λ e. spell ss src e) (λ e. a .lays src e)
+          (λ xs ys p h. ap length (whole-same 16 tpmsPcrSelection xs (moved-found at (whole 16 tpmsPcrSelection xs) p)) ∙ h);
       shaped = a .shaped;
       fields = ap (λ x. spanPart s ∷ x) (a .fields);
       lists = ap (λ x. spanPart s ∷ x) (a .lists);
       shows = λ src at p.
-          let (size, g) = counted-goes ps src at 16 (startOf s) (lenOf s) pcrSelection l p in
+          let (size, g) = counted-goes ps src at 16 (startOf s) (lenOf s) tpmsPcrSelection l p in
           let first = stepLines (Step.Selections s) src at in
           ap (λ n. first ++ linesOf ss src (at + n)) size ∙ ap (λ x. first ++ x) (a .shows src (at + lenOf s) (g .laid));
     }
@@ -283,7 +283,7 @@ plans-due {ps} {ss = ss} v (Choice.The t) h body a =
     }
 
 -- a digest is the arm by its length
-digest-arm : (c : Choice) (s : Span) → Arm c (suc (lenOf s)) (haBody (suc (lenOf s))) (spanPart s ∷ []) [] (Step.Plain (dueSize c) s ∷ [])
+digest-arm : (c : Choice) (s : Span) → Arm c (suc (lenOf s)) (tpmuHaBody (suc (lenOf s))) (spanPart s ∷ []) [] (Step.Plain (dueSize c) s ∷ [])
 digest-arm Choice.Nothing s = record { if-chosen = λ t. absurd (false≢true t); fields = refl; lists = refl }
 digest-arm (Choice.The zero) s = record { if-chosen = λ t. absurd (let e = eqb-true (suc (lenOf s)) 0 t in omega arith); fields = refl; lists = refl }
 digest-arm (Choice.The (suc n)) s =
@@ -319,7 +319,7 @@ adds-buffer m s h push a =
     adds-of (Step.Buffer m s ∷ a .added) (pushed-on (Step.Buffer m s ∷ []) (a .added) push (a .pushed)) (plans-buffer m s h (a .plans)) (omega (arith, a .most))
 
 pub adds-list : {l : Layout} {ps ls : List Part} {j : ℕ} {p q r : Plan} (s : Span) → Pushed p (Step.Selections s ∷ []) q → Adds l ps ls j q r
-    → Adds (counted 16 pcrSelection l) (spanPart s ∷ ps) (spanPart s ∷ ls) (suc j) p r
+    → Adds (counted 16 tpmsPcrSelection l) (spanPart s ∷ ps) (spanPart s ∷ ls) (suc j) p r
 adds-list s push a =
     adds-of (Step.Selections s ∷ a .added) (pushed-on (Step.Selections s ∷ []) (a .added) push (a .pushed)) (plans-list s (a .plans)) (omega (arith, a .most))
 
@@ -330,7 +330,7 @@ adds-last-number {r = r} w rule n h = adds-number w rule n (λ n. stop) h (adds-
 pub adds-last-buffer : {p r : Plan} (m : ℕ) (s : Span) → m < 65536 → Pushed p (Step.Buffer m s ∷ []) r → Adds (buffer 2 m stop) (spanPart s ∷ []) [] 1 p r
 adds-last-buffer {r = r} m s h push = adds-buffer m s h push (adds-none r (push .all))
 
-pub adds-last-list : {p r : Plan} (s : Span) → Pushed p (Step.Selections s ∷ []) r → Adds (counted 16 pcrSelection stop) (spanPart s ∷ []) (spanPart s ∷ []) 1 p r
+pub adds-last-list : {p r : Plan} (s : Span) → Pushed p (Step.Selections s ∷ []) r → Adds (counted 16 tpmsPcrSelection stop) (spanPart s ∷ []) (spanPart s ∷ []) 1 p r
 adds-last-list {r = r} s push = adds-list s push (adds-none r (push .all))
 
 -- ---- a union that holds the arm h; c is the arm that its selector v chooses, and b whether it is held
@@ -357,9 +357,9 @@ module _ {p q : Plan} {c c′ : Choice} {b : Bool} (v : ℕ) (body : ℕ → Lay
 
 -- a digest
 pub adds-digest : {p q r : Plan} {n : ℕ} {c c′ : Choice} {b : Bool} (v : ℕ) (s : Span) → c ≡ c′ → b ≡ isArm c′ (suc (lenOf s)) → Pushed p (due v c b) q → n ≡ dueSize c → Pushed q (Step.Plain n s ∷ []) r
-    → Adds (union c′ haBody v) (tag (suc (lenOf s)) ∷ spanPart s ∷ []) [] 2 p r
+    → Adds (union c′ tpmuHaBody v) (tag (suc (lenOf s)) ∷ spanPart s ∷ []) [] 2 p r
 adds-digest {c′ = c′} v s same held push size more =
-    adds-by v haBody (suc (lenOf s)) same held push (Step.Plain (dueSize c′) s ∷ []) (rw (size, same) at more) (digest-arm c′ s) (omega arith)
+    adds-by v tpmuHaBody (suc (lenOf s)) same held push (Step.Plain (dueSize c′) s ∷ []) (rw (size, same) at more) (digest-arm c′ s) (omega arith)
 
 -- at most so many steps are at most more
 pub adds-more : {l : Layout} {ps ls : List Part} {j k : ℕ} {p r : Plan} → j ≤ k → Adds l ps ls j p r → Adds l ps ls k p r

@@ -21,7 +21,7 @@ use Rattle.wire.proofs.Digits.{length-digits}
 use Rattle.wire.proofs.Steps.{found-refused, found-same, next-found, when-found}
 use Rattle.wire.proofs.Then.{whole-same}
 use Rattle.wire.proofs.Written.{spelt-found, moved-found}
-use Rattle.kinds.specs.Kinds.{pcrSelection}
+use Rattle.kinds.specs.Kinds.{tpmsPcrSelection}
 use Rattle.plans.specs.Steps.{spell, spellStep, laid}
 use Rattle.plans.specs.Walked.{Inside, Legal, Puts}
 use Rattle.plans.specs.declared.step.Word.{Word}
@@ -98,7 +98,7 @@ step-is (Step.Buffer m s) src at p =
 step-is (Step.Selections s) src at p =
     let (xs, e, q) = next-found (cut src (startOf s) (lenOf s) at) _ p in
     let (same, inside) = cut-is src (startOf s) (lenOf s) at e in
-    (whole-same 16 pcrSelection xs (moved-found at (whole 16 pcrSelection xs) q) ∙ same, inside)
+    (whole-same 16 tpmsPcrSelection xs (moved-found at (whole 16 tpmsPcrSelection xs) q) ∙ same, inside)
 step-is (Step.Fails f) src at p = absurd (found-refused p)
 
 pub record Next (s : Step) (ss : List Step) (src : List ℕ) (at : ℕ) (rest : List ℕ) : Type 0 where

@@ -17,7 +17,7 @@ use Rattle.wire.proofs.Sound.{list-sound, read-sound}
 use Rattle.wire.proofs.Stand.{stands-left, stands-bytes}
 use Rattle.wire.proofs.Written.{cut-found}
 use Rattle.kinds.specs.Codes.{alg}
-use Rattle.kinds.specs.Kinds.{pcrSelection}
+use Rattle.kinds.specs.Kinds.{tpmsPcrSelection}
 
 -- an answer that ends, or fails, not beyond the place n
 abbrev Within : Ans ℕ → ℕ → Type 0
@@ -76,8 +76,8 @@ bits-within src at =
     (field-within src at (at + 5) (omega arith) 1 (lengthTo 4) _
     (λ m e. let small : m ≤ 4 = leb-true m 4 e in rw (end-next (piece m src (at + 1)) _) (piece-within src (at + 1) (at + 5) (omega arith) m _ (λ xs. omega arith))))
 
-item-within : (src : List ℕ) (at : ℕ) → Within (endOf (read pcrSelection src at)) (at + 7)
-unfolding read pcrSelection
+item-within : (src : List ℕ) (at : ℕ) → Within (endOf (read tpmsPcrSelection src at)) (at + 7)
+unfolding read tpmsPcrSelection
 item-within src at =
     rw (end-next (field 2 alg src at) _)
     (field-within src at (at + 7) (omega arith) 2 alg _
@@ -87,29 +87,29 @@ walk-by : (a : Ans Parsed) (k : ℕ → Ans ℕ) (m n : ℕ) → Within (endOf a
 walk-by (found r) k m n h g f = f (r .stops) h
 walk-by (refused q) k m n h g f = omega arith
 
-walk-within : (n : ℕ) (src : List ℕ) (at : ℕ) → Within (walk (λ s a. read pcrSelection s a) n src at) (at + n * 7)
+walk-within : (n : ℕ) (src : List ℕ) (at : ℕ) → Within (walk (λ s a. read tpmsPcrSelection s a) n src at) (at + n * 7)
 walk-within zero src at = omega arith
 walk-within (suc n) src at =
-    walk-by (read pcrSelection src at) (λ e. walk (λ s a. read pcrSelection s a) n src e) (at + 7) (at + suc n * 7) (item-within src at) (omega arith)
-    (λ e h. within-more (walk (λ s a. read pcrSelection s a) n src e) (walk-within n src e) (omega arith))
+    walk-by (read tpmsPcrSelection src at) (λ e. walk (λ s a. read tpmsPcrSelection s a) n src e) (at + 7) (at + suc n * 7) (item-within src at) (omega arith)
+    (λ e h. within-more (walk (λ s a. read tpmsPcrSelection s a) n src e) (walk-within n src e) (omega arith))
 
-list-within : (xs : List ℕ) → Within (list 16 (λ s a. read pcrSelection s a) xs 0) 116
+list-within : (xs : List ℕ) → Within (list 16 (λ s a. read tpmsPcrSelection s a) xs 0) 116
 unfolding list
 list-within xs =
     field-within xs 0 116 (omega arith) 4 (countTo 16) _
-    (λ m e. let few : m ≤ 16 = leb-true m 16 e in within-more (walk (λ s a. read pcrSelection s a) m xs 4) (walk-within m xs 4) (omega arith))
+    (λ m e. let few : m ≤ 16 = leb-true m 16 e in within-more (walk (λ s a. read tpmsPcrSelection s a) m xs 4) (walk-within m xs 4) (omega arith))
 
 module _ (xs : List ℕ) where
-  pub list-near : {e : ℕ} → found e ≡ list 16 (λ s a. read pcrSelection s a) xs 0 → e ≤ 116
+  pub list-near : {e : ℕ} → found e ≡ list 16 (λ s a. read tpmsPcrSelection s a) xs 0 → e ≤ 116
   list-near p = rw (← p) at (list-within xs)
 
-  pub list-place : {f : Refusal} → refused f ≡ list 16 (λ s a. read pcrSelection s a) xs 0 → f .place ≤ 116
+  pub list-place : {f : Refusal} → refused f ≡ list 16 (λ s a. read tpmsPcrSelection s a) xs 0 → f .place ≤ 116
   list-place p = rw (← p) at (list-within xs)
 
   -- and a list ends in the bytes that it was found in
-  pub list-inside : {e : ℕ} → Bytes xs → found e ≡ list 16 (λ s a. read pcrSelection s a) xs 0 → e ≤ length xs
+  pub list-inside : {e : ℕ} → Bytes xs → found e ≡ list 16 (λ s a. read tpmsPcrSelection s a) xs 0 → e ≤ length xs
   list-inside b p =
-      let d = list-sound 16 pcrSelection (read-sound pcrSelection) xs 0 b (sym p) in
+      let d = list-sound 16 tpmsPcrSelection (read-sound tpmsPcrSelection) xs 0 b (sym p) in
       omega (arith, d .ends, stands-left (d .stands))
 
 -- the bytes of a span are bytes

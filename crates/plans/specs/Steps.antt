@@ -14,7 +14,7 @@ use Rattle.wire.specs.Layout.{Rule, free, listed, fixed, lengthTo, countTo, all
 use Rattle.wire.specs.Reading.{Part, Ans, found, refused, next, when, read}
 use Rattle.wire.specs.Writing.{cut, spelt, whole, moved, ahead, onto, lay, odd, spans}
 use Rattle.wire.specs.Unwritten.{Shaped}
-use Rattle.kinds.specs.Kinds.{pcrSelection}
+use Rattle.kinds.specs.Kinds.{tpmsPcrSelection}
 use Rattle.plans.specs.declared.step.Word.{Word}
 use Rattle.plans.specs.declared.step.Step.{Step}
 use Rattle.plans.specs.Lines.{Says, aCode, aNumber, Line, line, spanLine, listLines, lines}
@@ -52,7 +52,7 @@ spellStep (Step.Plain n s) src at = when (eqb (lenOf s) n) (cut src (startOf s) 
 spellStep (Step.Buffer m s) src at =
     next (cut src (startOf s) (lenOf s) at)
     (λ xs. ahead (spelt 2 (lengthTo m) (lenOf s) at) (found xs))
-spellStep (Step.Selections s) src at = next (cut src (startOf s) (lenOf s) at) (λ xs. moved at (whole 16 pcrSelection xs))
+spellStep (Step.Selections s) src at = next (cut src (startOf s) (lenOf s) at) (λ xs. moved at (whole 16 tpmsPcrSelection xs))
 spellStep (Step.Fails f) src at = refused (refusal (f .fault) at (f .value))
 
 unfoldable pub spell : List Step → (src : List ℕ) (at : ℕ) → Ans (List ℕ)
@@ -96,7 +96,7 @@ stepLines (Step.Number k w n) src at = line at (widthOf w) (sayWord k n) ∷ []
 stepLines (Step.Plain n s) src at = spanLine at (startOf s) (lenOf s) src ∷ []
 stepLines (Step.Buffer m s) src at = line at 2 (aNumber (lenOf s)) ∷ spanLine (at + 2) (startOf s) (lenOf s) src ∷ []
 stepLines (Step.Selections s) src at =
-    listLines (λ qs xs a. lines pcrSelection qs xs a) (λ s a. read pcrSelection s a) (take (lenOf s) (drop (startOf s) src)) at
+    listLines (λ qs xs a. lines tpmsPcrSelection qs xs a) (λ s a. read tpmsPcrSelection s a) (take (lenOf s) (drop (startOf s) src)) at
 stepLines (Step.Fails f) src at = []
 
 unfoldable pub linesOf : List Step → (src : List ℕ) (at : ℕ) → List Line

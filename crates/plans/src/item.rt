@@ -5,8 +5,8 @@ use crate::plan::Plan;
 use crate::step::Step;
 use kinds::uint::Uint32Read;
 use kinds::uint::uint32;
-use schemes::tpms::PcrSelectionRead;
 use schemes::tpms::TpmsPcrSelection;
+use schemes::tpms::TpmsPcrSelectionRead;
 use wire::fault::Refusal;
 use wire::measure::Measure;
 use wire::span::Span;
@@ -16,7 +16,7 @@ ghost use Prim.Native.Nat.{ℕ};
 ghost use Rattle.wire.specs.Answers.{measureAnswer, spanPart};
 ghost use Rattle.wire.specs.Reading.{read};
 ghost use Rattle.wire.specs.Writing.{partOf, sizeOf, pickField, pickItem, itemOf};
-ghost use Rattle.kinds.specs.Kinds.{pcrSelection};
+ghost use Rattle.kinds.specs.Kinds.{tpmsPcrSelection};
 ghost use Rattle.plans.specs.Steps.{steps, Room, listsOf};
 ghost use Rattle.plans.specs.Walked.{placeAnswer, placeAhead, itemAnswer, ItemInside};
 
@@ -42,21 +42,21 @@ impl Step {
 
 // Where the item with that index stands among `count` items behind a list's count.
 fn walk_to(s: &[u8], count: usize, index: usize) -> Item
-    ensures { λ r. ⌜ (itemAnswer r (now (s .entry)) ≡ pickItem (λ s a. read pcrSelection s a) count index index (now (s .entry)) 4)
+    ensures { λ r. ⌜ (itemAnswer r (now (s .entry)) ≡ pickItem (λ s a. read tpmsPcrSelection s a) count index index (now (s .entry)) 4)
         × ItemInside r (now (s .entry)) ⌝ }
 {
     let mut at: usize = 4;
     let mut i: usize = 0;
     while i < count {
         match TpmsPcrSelection::unmarshal(s, at) {
-            PcrSelectionRead::Found(_, e) => {
+            TpmsPcrSelectionRead::Found(_, e) => {
                 if i == index {
                     let len = e - at;
                     return Item::At(Span::new(at, len));
                 }
                 at = e;
             }
-            PcrSelectionRead::No(f) => {
+            TpmsPcrSelectionRead::No(f) => {
                 return Item::No(f);
             }
         }
@@ -67,7 +67,7 @@ fn walk_to(s: &[u8], count: usize, index: usize) -> Item
 
 // Where the item with that index of the list with that span stands. The whole list is judged first, as a writer judges it.
 fn item_in(list: Span, s: &[u8], index: usize) -> Item
-    ensures { λ r. ⌜ itemAnswer r (now (s .entry)) ≡ itemOf 16 pcrSelection (spanPart list ∷ []) index (now (s .entry)) ⌝ }
+    ensures { λ r. ⌜ itemAnswer r (now (s .entry)) ≡ itemOf 16 tpmsPcrSelection (spanPart list ∷ []) index (now (s .entry)) ⌝ }
 {
     match judge_list(list, s, 0) {
         Measure::Size(_) => {}
@@ -116,7 +116,7 @@ impl Plan {
     // Where the item with that index of the record's list stands.
     fn find_item(self, s: &[u8], index: usize) -> Item
         requires { ⌜ Room 0 self ⌝ }
-        ensures { λ r. ⌜ itemAnswer r (now (s .entry)) ≡ itemOf 16 pcrSelection (listsOf (steps self)) index (now (s .entry)) ⌝ }
+        ensures { λ r. ⌜ itemAnswer r (now (s .entry)) ≡ itemOf 16 tpmsPcrSelection (listsOf (steps self)) index (now (s .entry)) ⌝ }
     {
         match self.find_list() {
             Place::At(list) => item_in(list, s, index),
@@ -126,7 +126,7 @@ impl Plan {
 
     pub fn item<'a>(self, s: &'a [u8], index: usize) -> &'a [u8]
         requires { ⌜ Room 0 self ⌝ }
-        ensures { λ r. ⌜ now r ≡ partOf (itemOf 16 pcrSelection (listsOf (steps self)) index (now (s .entry))) ⌝ }
+        ensures { λ r. ⌜ now r ≡ partOf (itemOf 16 tpmsPcrSelection (listsOf (steps self)) index (now (s .entry))) ⌝ }
     {
         match self.find_item(s, index) {
             Item::At(span) => span.part(s),
@@ -137,7 +137,7 @@ impl Plan {
     // What `item` answers: how long the part is, or why there is none.
     pub fn item_size(self, s: &[u8], index: usize) -> Measure
         requires { ⌜ Room 0 self ⌝ }
-        ensures { λ r. ⌜ measureAnswer r ≡ sizeOf (itemOf 16 pcrSelection (listsOf (steps self)) index (now (s .entry))) ⌝ }
+        ensures { λ r. ⌜ measureAnswer r ≡ sizeOf (itemOf 16 tpmsPcrSelection (listsOf (steps self)) index (now (s .entry))) ⌝ }
     {
         match self.find_item(s, index) {
             Item::At(span) => span.measure(s, 0),

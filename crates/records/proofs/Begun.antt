@@ -13,7 +13,7 @@ use Rattle.wire.proofs.Digits.{length-digits}
 use Rattle.wire.proofs.Stand.{stands-left}
 use Rattle.wire.proofs.Sound.{read-sound}
 use Rattle.wire.proofs.Split.{no-arm-no-record}
-use Rattle.kinds.specs.Kinds.{ha, symDef, kdfScheme, keyedhashScheme, sigScheme, asymScheme, publicParms, signature, publicArea, sensitive, attest, pcrSelections, kinds, layoutOf}
+use Rattle.kinds.specs.Kinds.{tpmtHa, tpmtSymDef, tpmtKdfScheme, tpmtKeyedhashScheme, tpmtSigScheme, tpmtAsymScheme, tpmtPublicParms, tpmtSignature, tpmtPublic, tpmtSensitive, tpmsAttest, tpmlPcrSelection, kinds, layoutOf}
 
 -- the layout begins with a number or with a count, or no bytes spell it
 abbrev begins : Layout → Bool
@@ -53,7 +53,7 @@ begins-at (l ∷ ls) v h zero = both-true (begins l) (begin ls) h .0
 begins-at (l ∷ ls) v h (suc k) = begins-at ls v (both-true (begins l) (begin ls) h .1) k
 
 kinds-begin : begin kinds ≡ true
-unfolding kinds ha symDef kdfScheme keyedhashScheme sigScheme asymScheme publicParms signature publicArea sensitive attest pcrSelections
+unfolding kinds tpmtHa tpmtSymDef tpmtKdfScheme tpmtKeyedhashScheme tpmtSigScheme tpmtAsymScheme tpmtPublicParms tpmtSignature tpmtPublic tpmtSensitive tpmsAttest tpmlPcrSelection
 kinds-begin = refl
 
 kind-begins : (k : ℕ) → begins (layoutOf k) ≡ true

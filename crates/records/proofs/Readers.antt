@@ -30,7 +30,7 @@ use Rattle.wire.proofs.Later.{Verdict, later}
 use Rattle.wire.proofs.Refused.{refuses-read}
 use Rattle.wire.proofs.Answers.{measure-answer-once}
 use Rattle.wire.proofs.Whole.{whole-is-read, read-is-whole, read-is-trailing}
-use Rattle.kinds.specs.Kinds.{ha, symDef, kdfScheme, keyedhashScheme, sigScheme, asymScheme, publicParms, signature, publicArea, sensitive, attest, pcrSelections, kinds, isKind, layoutOf, readKind}
+use Rattle.kinds.specs.Kinds.{tpmtHa, tpmtSymDef, tpmtKdfScheme, tpmtKeyedhashScheme, tpmtSigScheme, tpmtAsymScheme, tpmtPublicParms, tpmtSignature, tpmtPublic, tpmtSensitive, tpmsAttest, tpmlPcrSelection, kinds, isKind, layoutOf, readKind}
 use Rattle.records.specs.Ends.{endOf}
 use Rattle.records.proofs.ByKind.{no-kind}
 use Rattle.records.proofs.Wholes.{whole-refused}
@@ -41,10 +41,10 @@ use Rattle.records.proofs.Promises as promises
 -- the layout of each number, as the contracts name it: `kind-layouts .11` is that of kind 11, and 0 is no kind
 pub kind-layouts :
     (layoutOf 0 ≡ noArm 0)
-    × (layoutOf 1 ≡ ha) × (layoutOf 2 ≡ symDef) × (layoutOf 3 ≡ kdfScheme) × (layoutOf 4 ≡ keyedhashScheme) × (layoutOf 5 ≡ sigScheme)
-    × (layoutOf 6 ≡ asymScheme) × (layoutOf 7 ≡ asymScheme) × (layoutOf 8 ≡ asymScheme)
-    × (layoutOf 9 ≡ publicParms) × (layoutOf 10 ≡ signature) × (layoutOf 11 ≡ publicArea) × (layoutOf 12 ≡ sensitive)
-    × (layoutOf 13 ≡ attest) × (layoutOf 14 ≡ pcrSelections)
+    × (layoutOf 1 ≡ tpmtHa) × (layoutOf 2 ≡ tpmtSymDef) × (layoutOf 3 ≡ tpmtKdfScheme) × (layoutOf 4 ≡ tpmtKeyedhashScheme) × (layoutOf 5 ≡ tpmtSigScheme)
+    × (layoutOf 6 ≡ tpmtAsymScheme) × (layoutOf 7 ≡ tpmtAsymScheme) × (layoutOf 8 ≡ tpmtAsymScheme)
+    × (layoutOf 9 ≡ tpmtPublicParms) × (layoutOf 10 ≡ tpmtSignature) × (layoutOf 11 ≡ tpmtPublic) × (layoutOf 12 ≡ tpmtSensitive)
+    × (layoutOf 13 ≡ tpmsAttest) × (layoutOf 14 ≡ tpmlPcrSelection)
 unfolding layoutOf kinds
 kind-layouts = (refl, refl, refl, refl, refl, refl, refl, refl, refl, refl, refl, refl, refl, refl, refl)
 

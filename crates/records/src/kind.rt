@@ -1,164 +1,164 @@
 // A record of any kind by the kind's number, for callers that only need to know where it ends.
-use attest::attestation::AttestRead;
 use attest::attestation::TpmsAttest;
-use keys::tpmt::PublicParmsRead;
-use keys::tpmt::PublicRead;
-use keys::tpmt::SensitiveRead;
-use keys::tpmt::SignatureRead;
+use attest::attestation::TpmsAttestRead;
 use keys::tpmt::TpmtPublic;
 use keys::tpmt::TpmtPublicParms;
+use keys::tpmt::TpmtPublicParmsRead;
+use keys::tpmt::TpmtPublicRead;
 use keys::tpmt::TpmtSensitive;
+use keys::tpmt::TpmtSensitiveRead;
 use keys::tpmt::TpmtSignature;
-use schemes::list::PcrSelectionsRead;
+use keys::tpmt::TpmtSignatureRead;
 use schemes::list::TpmlPcrSelection;
-use schemes::tpmt::EccSchemeRead;
-use schemes::tpmt::HaRead;
-use schemes::tpmt::KdfSchemeRead;
-use schemes::tpmt::KeyedhashSchemeRead;
-use schemes::tpmt::RsaDecryptRead;
-use schemes::tpmt::RsaSchemeRead;
-use schemes::tpmt::SigSchemeRead;
-use schemes::tpmt::SymDefRead;
+use schemes::list::TpmlPcrSelectionRead;
 use schemes::tpmt::TpmtEccScheme;
+use schemes::tpmt::TpmtEccSchemeRead;
 use schemes::tpmt::TpmtHa;
+use schemes::tpmt::TpmtHaRead;
 use schemes::tpmt::TpmtKdfScheme;
+use schemes::tpmt::TpmtKdfSchemeRead;
 use schemes::tpmt::TpmtKeyedhashScheme;
+use schemes::tpmt::TpmtKeyedhashSchemeRead;
 use schemes::tpmt::TpmtRsaDecrypt;
+use schemes::tpmt::TpmtRsaDecryptRead;
 use schemes::tpmt::TpmtRsaScheme;
+use schemes::tpmt::TpmtRsaSchemeRead;
 use schemes::tpmt::TpmtSigScheme;
+use schemes::tpmt::TpmtSigSchemeRead;
 use schemes::tpmt::TpmtSymDef;
+use schemes::tpmt::TpmtSymDefRead;
 use wire::fault::Refusal;
 use wire::measure::Measure;
 use wire::widen::wide_byte;
 ghost use mathlib.Core.Path.{_≡_};
 ghost use Rattle.wire.specs.Answers.{measureAnswer};
 ghost use Rattle.wire.specs.Reading.{read};
-ghost use Rattle.kinds.specs.Kinds.{ha, symDef, kdfScheme, keyedhashScheme, sigScheme, asymScheme, publicParms, signature, publicArea, sensitive, attest, pcrSelections, readKind};
+ghost use Rattle.kinds.specs.Kinds.{tpmtHa, tpmtSymDef, tpmtKdfScheme, tpmtKeyedhashScheme, tpmtSigScheme, tpmtAsymScheme, tpmtPublicParms, tpmtSignature, tpmtPublic, tpmtSensitive, tpmsAttest, tpmlPcrSelection, readKind};
 ghost use Rattle.records.specs.Ends.{endOf};
 
 fn ha_end(s: &[u8], at: usize) -> Measure
-    ensures { λ r. ⌜ measureAnswer r ≡ endOf (read ha (now (s .entry)) at) ⌝ }
+    ensures { λ r. ⌜ measureAnswer r ≡ endOf (read tpmtHa (now (s .entry)) at) ⌝ }
 {
     match TpmtHa::unmarshal(s, at) {
-        HaRead::Found(_, e) => Measure::Size(e),
-        HaRead::No(f) => Measure::No(f),
+        TpmtHaRead::Found(_, e) => Measure::Size(e),
+        TpmtHaRead::No(f) => Measure::No(f),
     }
 }
 
 fn sym_def_end(s: &[u8], at: usize) -> Measure
-    ensures { λ r. ⌜ measureAnswer r ≡ endOf (read symDef (now (s .entry)) at) ⌝ }
+    ensures { λ r. ⌜ measureAnswer r ≡ endOf (read tpmtSymDef (now (s .entry)) at) ⌝ }
 {
     match TpmtSymDef::unmarshal(s, at) {
-        SymDefRead::Found(_, e) => Measure::Size(e),
-        SymDefRead::No(f) => Measure::No(f),
+        TpmtSymDefRead::Found(_, e) => Measure::Size(e),
+        TpmtSymDefRead::No(f) => Measure::No(f),
     }
 }
 
 fn kdf_scheme_end(s: &[u8], at: usize) -> Measure
-    ensures { λ r. ⌜ measureAnswer r ≡ endOf (read kdfScheme (now (s .entry)) at) ⌝ }
+    ensures { λ r. ⌜ measureAnswer r ≡ endOf (read tpmtKdfScheme (now (s .entry)) at) ⌝ }
 {
     match TpmtKdfScheme::unmarshal(s, at) {
-        KdfSchemeRead::Found(_, e) => Measure::Size(e),
-        KdfSchemeRead::No(f) => Measure::No(f),
+        TpmtKdfSchemeRead::Found(_, e) => Measure::Size(e),
+        TpmtKdfSchemeRead::No(f) => Measure::No(f),
     }
 }
 
 fn keyedhash_scheme_end(s: &[u8], at: usize) -> Measure
-    ensures { λ r. ⌜ measureAnswer r ≡ endOf (read keyedhashScheme (now (s .entry)) at) ⌝ }
+    ensures { λ r. ⌜ measureAnswer r ≡ endOf (read tpmtKeyedhashScheme (now (s .entry)) at) ⌝ }
 {
     match TpmtKeyedhashScheme::unmarshal(s, at) {
-        KeyedhashSchemeRead::Found(_, e) => Measure::Size(e),
-        KeyedhashSchemeRead::No(f) => Measure::No(f),
+        TpmtKeyedhashSchemeRead::Found(_, e) => Measure::Size(e),
+        TpmtKeyedhashSchemeRead::No(f) => Measure::No(f),
     }
 }
 
 fn sig_scheme_end(s: &[u8], at: usize) -> Measure
-    ensures { λ r. ⌜ measureAnswer r ≡ endOf (read sigScheme (now (s .entry)) at) ⌝ }
+    ensures { λ r. ⌜ measureAnswer r ≡ endOf (read tpmtSigScheme (now (s .entry)) at) ⌝ }
 {
     match TpmtSigScheme::unmarshal(s, at) {
-        SigSchemeRead::Found(_, e) => Measure::Size(e),
-        SigSchemeRead::No(f) => Measure::No(f),
+        TpmtSigSchemeRead::Found(_, e) => Measure::Size(e),
+        TpmtSigSchemeRead::No(f) => Measure::No(f),
     }
 }
 
 fn rsa_scheme_end(s: &[u8], at: usize) -> Measure
-    ensures { λ r. ⌜ measureAnswer r ≡ endOf (read asymScheme (now (s .entry)) at) ⌝ }
+    ensures { λ r. ⌜ measureAnswer r ≡ endOf (read tpmtAsymScheme (now (s .entry)) at) ⌝ }
 {
     match TpmtRsaScheme::unmarshal(s, at) {
-        RsaSchemeRead::Found(_, e) => Measure::Size(e),
-        RsaSchemeRead::No(f) => Measure::No(f),
+        TpmtRsaSchemeRead::Found(_, e) => Measure::Size(e),
+        TpmtRsaSchemeRead::No(f) => Measure::No(f),
     }
 }
 
 fn ecc_scheme_end(s: &[u8], at: usize) -> Measure
-    ensures { λ r. ⌜ measureAnswer r ≡ endOf (read asymScheme (now (s .entry)) at) ⌝ }
+    ensures { λ r. ⌜ measureAnswer r ≡ endOf (read tpmtAsymScheme (now (s .entry)) at) ⌝ }
 {
     match TpmtEccScheme::unmarshal(s, at) {
-        EccSchemeRead::Found(_, e) => Measure::Size(e),
-        EccSchemeRead::No(f) => Measure::No(f),
+        TpmtEccSchemeRead::Found(_, e) => Measure::Size(e),
+        TpmtEccSchemeRead::No(f) => Measure::No(f),
     }
 }
 
 fn rsa_decrypt_end(s: &[u8], at: usize) -> Measure
-    ensures { λ r. ⌜ measureAnswer r ≡ endOf (read asymScheme (now (s .entry)) at) ⌝ }
+    ensures { λ r. ⌜ measureAnswer r ≡ endOf (read tpmtAsymScheme (now (s .entry)) at) ⌝ }
 {
     match TpmtRsaDecrypt::unmarshal(s, at) {
-        RsaDecryptRead::Found(_, e) => Measure::Size(e),
-        RsaDecryptRead::No(f) => Measure::No(f),
+        TpmtRsaDecryptRead::Found(_, e) => Measure::Size(e),
+        TpmtRsaDecryptRead::No(f) => Measure::No(f),
     }
 }
 
 fn public_parms_end(s: &[u8], at: usize) -> Measure
-    ensures { λ r. ⌜ measureAnswer r ≡ endOf (read publicParms (now (s .entry)) at) ⌝ }
+    ensures { λ r. ⌜ measureAnswer r ≡ endOf (read tpmtPublicParms (now (s .entry)) at) ⌝ }
 {
     match TpmtPublicParms::unmarshal(s, at) {
-        PublicParmsRead::Found(_, e) => Measure::Size(e),
-        PublicParmsRead::No(f) => Measure::No(f),
+        TpmtPublicParmsRead::Found(_, e) => Measure::Size(e),
+        TpmtPublicParmsRead::No(f) => Measure::No(f),
     }
 }
 
 fn signature_end(s: &[u8], at: usize) -> Measure
-    ensures { λ r. ⌜ measureAnswer r ≡ endOf (read signature (now (s .entry)) at) ⌝ }
+    ensures { λ r. ⌜ measureAnswer r ≡ endOf (read tpmtSignature (now (s .entry)) at) ⌝ }
 {
     match TpmtSignature::unmarshal(s, at) {
-        SignatureRead::Found(_, e) => Measure::Size(e),
-        SignatureRead::No(f) => Measure::No(f),
+        TpmtSignatureRead::Found(_, e) => Measure::Size(e),
+        TpmtSignatureRead::No(f) => Measure::No(f),
     }
 }
 
 fn public_area_end(s: &[u8], at: usize) -> Measure
-    ensures { λ r. ⌜ measureAnswer r ≡ endOf (read publicArea (now (s .entry)) at) ⌝ }
+    ensures { λ r. ⌜ measureAnswer r ≡ endOf (read tpmtPublic (now (s .entry)) at) ⌝ }
 {
     match TpmtPublic::unmarshal(s, at) {
-        PublicRead::Found(_, e) => Measure::Size(e),
-        PublicRead::No(f) => Measure::No(f),
+        TpmtPublicRead::Found(_, e) => Measure::Size(e),
+        TpmtPublicRead::No(f) => Measure::No(f),
     }
 }
 
 fn sensitive_area_end(s: &[u8], at: usize) -> Measure
-    ensures { λ r. ⌜ measureAnswer r ≡ endOf (read sensitive (now (s .entry)) at) ⌝ }
+    ensures { λ r. ⌜ measureAnswer r ≡ endOf (read tpmtSensitive (now (s .entry)) at) ⌝ }
 {
     match TpmtSensitive::unmarshal(s, at) {
-        SensitiveRead::Found(_, e) => Measure::Size(e),
-        SensitiveRead::No(f) => Measure::No(f),
+        TpmtSensitiveRead::Found(_, e) => Measure::Size(e),
+        TpmtSensitiveRead::No(f) => Measure::No(f),
     }
 }
 
 fn attestation_end(s: &[u8], at: usize) -> Measure
-    ensures { λ r. ⌜ measureAnswer r ≡ endOf (read attest (now (s .entry)) at) ⌝ }
+    ensures { λ r. ⌜ measureAnswer r ≡ endOf (read tpmsAttest (now (s .entry)) at) ⌝ }
 {
     match TpmsAttest::unmarshal(s, at) {
-        AttestRead::Found(_, e) => Measure::Size(e),
-        AttestRead::No(f) => Measure::No(f),
+        TpmsAttestRead::Found(_, e) => Measure::Size(e),
+        TpmsAttestRead::No(f) => Measure::No(f),
     }
 }
 
 fn pcr_selections_end(s: &[u8], at: usize) -> Measure
-    ensures { λ r. ⌜ measureAnswer r ≡ endOf (read pcrSelections (now (s .entry)) at) ⌝ }
+    ensures { λ r. ⌜ measureAnswer r ≡ endOf (read tpmlPcrSelection (now (s .entry)) at) ⌝ }
 {
     match TpmlPcrSelection::unmarshal(s, at) {
-        PcrSelectionsRead::Found(_, e) => Measure::Size(e),
-        PcrSelectionsRead::No(f) => Measure::No(f),
+        TpmlPcrSelectionRead::Found(_, e) => Measure::Size(e),
+        TpmlPcrSelectionRead::No(f) => Measure::No(f),
     }
 }
 

@@ -1,260 +1,260 @@
 // Each kind read whole: nothing may be left where the record ends. A record with a tail is Trailing, placed where it ends.
-use attest::attestation::AttestRead;
 use attest::attestation::TpmsAttest;
-use keys::tpmt::PublicParmsRead;
-use keys::tpmt::PublicRead;
-use keys::tpmt::SensitiveRead;
-use keys::tpmt::SignatureRead;
+use attest::attestation::TpmsAttestRead;
 use keys::tpmt::TpmtPublic;
 use keys::tpmt::TpmtPublicParms;
+use keys::tpmt::TpmtPublicParmsRead;
+use keys::tpmt::TpmtPublicRead;
 use keys::tpmt::TpmtSensitive;
+use keys::tpmt::TpmtSensitiveRead;
 use keys::tpmt::TpmtSignature;
-use schemes::list::PcrSelectionsRead;
+use keys::tpmt::TpmtSignatureRead;
 use schemes::list::TpmlPcrSelection;
-use schemes::tpmt::EccSchemeRead;
-use schemes::tpmt::HaRead;
-use schemes::tpmt::KdfSchemeRead;
-use schemes::tpmt::KeyedhashSchemeRead;
-use schemes::tpmt::RsaDecryptRead;
-use schemes::tpmt::RsaSchemeRead;
-use schemes::tpmt::SigSchemeRead;
-use schemes::tpmt::SymDefRead;
+use schemes::list::TpmlPcrSelectionRead;
 use schemes::tpmt::TpmtEccScheme;
+use schemes::tpmt::TpmtEccSchemeRead;
 use schemes::tpmt::TpmtHa;
+use schemes::tpmt::TpmtHaRead;
 use schemes::tpmt::TpmtKdfScheme;
+use schemes::tpmt::TpmtKdfSchemeRead;
 use schemes::tpmt::TpmtKeyedhashScheme;
+use schemes::tpmt::TpmtKeyedhashSchemeRead;
 use schemes::tpmt::TpmtRsaDecrypt;
+use schemes::tpmt::TpmtRsaDecryptRead;
 use schemes::tpmt::TpmtRsaScheme;
+use schemes::tpmt::TpmtRsaSchemeRead;
 use schemes::tpmt::TpmtSigScheme;
+use schemes::tpmt::TpmtSigSchemeRead;
 use schemes::tpmt::TpmtSymDef;
+use schemes::tpmt::TpmtSymDefRead;
 use wire::fault::Refusal;
 ghost use mathlib.Core.Path.{_≡_};
 ghost use Rattle.wire.specs.Reading.{readWhole};
-ghost use Rattle.kinds.specs.Kinds.{ha, symDef, kdfScheme, keyedhashScheme, sigScheme, asymScheme, publicParms, signature, publicArea, sensitive, attest, pcrSelections};
-ghost use Rattle.schemes.specs.Answers.{haAnswer, symDefAnswer, kdfSchemeAnswer, keyedhashSchemeAnswer, sigSchemeAnswer, rsaSchemeAnswer, eccSchemeAnswer, rsaDecryptAnswer, pcrSelectionsAnswer};
-ghost use Rattle.keys.specs.Answers.{publicParmsAnswer, signatureAnswer, publicAnswer, sensitiveAnswer};
-ghost use Rattle.attest.specs.Answers.{attestAnswer};
+ghost use Rattle.kinds.specs.Kinds.{tpmtHa, tpmtSymDef, tpmtKdfScheme, tpmtKeyedhashScheme, tpmtSigScheme, tpmtAsymScheme, tpmtPublicParms, tpmtSignature, tpmtPublic, tpmtSensitive, tpmsAttest, tpmlPcrSelection};
+ghost use Rattle.schemes.specs.Answers.{tpmtHaAnswer, tpmtSymDefAnswer, tpmtKdfSchemeAnswer, tpmtKeyedhashSchemeAnswer, tpmtSigSchemeAnswer, tpmtRsaSchemeAnswer, tpmtEccSchemeAnswer, tpmtRsaDecryptAnswer, tpmlPcrSelectionAnswer};
+ghost use Rattle.keys.specs.Answers.{tpmtPublicParmsAnswer, tpmtSignatureAnswer, tpmtPublicAnswer, tpmtSensitiveAnswer};
+ghost use Rattle.attest.specs.Answers.{tpmsAttestAnswer};
 
 // Kind 1, TPMT_HA, read whole.
-pub fn ha(s: &[u8], at: usize) -> HaRead
-    ensures { λ r. ⌜ haAnswer r ≡ readWhole ha (now (s .entry)) at ⌝ }
+pub fn ha(s: &[u8], at: usize) -> TpmtHaRead
+    ensures { λ r. ⌜ tpmtHaAnswer r ≡ readWhole tpmtHa (now (s .entry)) at ⌝ }
 {
     match TpmtHa::unmarshal(s, at) {
-        HaRead::Found(x, e) => {
+        TpmtHaRead::Found(x, e) => {
             if s.len() <= e {
-                return HaRead::Found(x, e);
+                return TpmtHaRead::Found(x, e);
             }
             let left = s.len() - e;
-            HaRead::No(Refusal::trailing(e, left))
+            TpmtHaRead::No(Refusal::trailing(e, left))
         }
-        HaRead::No(f) => HaRead::No(f),
+        TpmtHaRead::No(f) => TpmtHaRead::No(f),
     }
 }
 
 // Kind 2, TPMT_SYM_DEF, read whole.
-pub fn sym_def(s: &[u8], at: usize) -> SymDefRead
-    ensures { λ r. ⌜ symDefAnswer r ≡ readWhole symDef (now (s .entry)) at ⌝ }
+pub fn sym_def(s: &[u8], at: usize) -> TpmtSymDefRead
+    ensures { λ r. ⌜ tpmtSymDefAnswer r ≡ readWhole tpmtSymDef (now (s .entry)) at ⌝ }
 {
     match TpmtSymDef::unmarshal(s, at) {
-        SymDefRead::Found(x, e) => {
+        TpmtSymDefRead::Found(x, e) => {
             if s.len() <= e {
-                return SymDefRead::Found(x, e);
+                return TpmtSymDefRead::Found(x, e);
             }
             let left = s.len() - e;
-            SymDefRead::No(Refusal::trailing(e, left))
+            TpmtSymDefRead::No(Refusal::trailing(e, left))
         }
-        SymDefRead::No(f) => SymDefRead::No(f),
+        TpmtSymDefRead::No(f) => TpmtSymDefRead::No(f),
     }
 }
 
 // Kind 3, TPMT_KDF_SCHEME, read whole.
-pub fn kdf_scheme(s: &[u8], at: usize) -> KdfSchemeRead
-    ensures { λ r. ⌜ kdfSchemeAnswer r ≡ readWhole kdfScheme (now (s .entry)) at ⌝ }
+pub fn kdf_scheme(s: &[u8], at: usize) -> TpmtKdfSchemeRead
+    ensures { λ r. ⌜ tpmtKdfSchemeAnswer r ≡ readWhole tpmtKdfScheme (now (s .entry)) at ⌝ }
 {
     match TpmtKdfScheme::unmarshal(s, at) {
-        KdfSchemeRead::Found(x, e) => {
+        TpmtKdfSchemeRead::Found(x, e) => {
             if s.len() <= e {
-                return KdfSchemeRead::Found(x, e);
+                return TpmtKdfSchemeRead::Found(x, e);
             }
             let left = s.len() - e;
-            KdfSchemeRead::No(Refusal::trailing(e, left))
+            TpmtKdfSchemeRead::No(Refusal::trailing(e, left))
         }
-        KdfSchemeRead::No(f) => KdfSchemeRead::No(f),
+        TpmtKdfSchemeRead::No(f) => TpmtKdfSchemeRead::No(f),
     }
 }
 
 // Kind 4, TPMT_KEYEDHASH_SCHEME, read whole.
-pub fn keyedhash_scheme(s: &[u8], at: usize) -> KeyedhashSchemeRead
-    ensures { λ r. ⌜ keyedhashSchemeAnswer r ≡ readWhole keyedhashScheme (now (s .entry)) at ⌝ }
+pub fn keyedhash_scheme(s: &[u8], at: usize) -> TpmtKeyedhashSchemeRead
+    ensures { λ r. ⌜ tpmtKeyedhashSchemeAnswer r ≡ readWhole tpmtKeyedhashScheme (now (s .entry)) at ⌝ }
 {
     match TpmtKeyedhashScheme::unmarshal(s, at) {
-        KeyedhashSchemeRead::Found(x, e) => {
+        TpmtKeyedhashSchemeRead::Found(x, e) => {
             if s.len() <= e {
-                return KeyedhashSchemeRead::Found(x, e);
+                return TpmtKeyedhashSchemeRead::Found(x, e);
             }
             let left = s.len() - e;
-            KeyedhashSchemeRead::No(Refusal::trailing(e, left))
+            TpmtKeyedhashSchemeRead::No(Refusal::trailing(e, left))
         }
-        KeyedhashSchemeRead::No(f) => KeyedhashSchemeRead::No(f),
+        TpmtKeyedhashSchemeRead::No(f) => TpmtKeyedhashSchemeRead::No(f),
     }
 }
 
 // Kind 5, TPMT_SIG_SCHEME, read whole.
-pub fn sig_scheme(s: &[u8], at: usize) -> SigSchemeRead
-    ensures { λ r. ⌜ sigSchemeAnswer r ≡ readWhole sigScheme (now (s .entry)) at ⌝ }
+pub fn sig_scheme(s: &[u8], at: usize) -> TpmtSigSchemeRead
+    ensures { λ r. ⌜ tpmtSigSchemeAnswer r ≡ readWhole tpmtSigScheme (now (s .entry)) at ⌝ }
 {
     match TpmtSigScheme::unmarshal(s, at) {
-        SigSchemeRead::Found(x, e) => {
+        TpmtSigSchemeRead::Found(x, e) => {
             if s.len() <= e {
-                return SigSchemeRead::Found(x, e);
+                return TpmtSigSchemeRead::Found(x, e);
             }
             let left = s.len() - e;
-            SigSchemeRead::No(Refusal::trailing(e, left))
+            TpmtSigSchemeRead::No(Refusal::trailing(e, left))
         }
-        SigSchemeRead::No(f) => SigSchemeRead::No(f),
+        TpmtSigSchemeRead::No(f) => TpmtSigSchemeRead::No(f),
     }
 }
 
 // Kind 6, TPMT_RSA_SCHEME, read whole.
-pub fn rsa_scheme(s: &[u8], at: usize) -> RsaSchemeRead
-    ensures { λ r. ⌜ rsaSchemeAnswer r ≡ readWhole asymScheme (now (s .entry)) at ⌝ }
+pub fn rsa_scheme(s: &[u8], at: usize) -> TpmtRsaSchemeRead
+    ensures { λ r. ⌜ tpmtRsaSchemeAnswer r ≡ readWhole tpmtAsymScheme (now (s .entry)) at ⌝ }
 {
     match TpmtRsaScheme::unmarshal(s, at) {
-        RsaSchemeRead::Found(x, e) => {
+        TpmtRsaSchemeRead::Found(x, e) => {
             if s.len() <= e {
-                return RsaSchemeRead::Found(x, e);
+                return TpmtRsaSchemeRead::Found(x, e);
             }
             let left = s.len() - e;
-            RsaSchemeRead::No(Refusal::trailing(e, left))
+            TpmtRsaSchemeRead::No(Refusal::trailing(e, left))
         }
-        RsaSchemeRead::No(f) => RsaSchemeRead::No(f),
+        TpmtRsaSchemeRead::No(f) => TpmtRsaSchemeRead::No(f),
     }
 }
 
 // Kind 7, TPMT_ECC_SCHEME, read whole.
-pub fn ecc_scheme(s: &[u8], at: usize) -> EccSchemeRead
-    ensures { λ r. ⌜ eccSchemeAnswer r ≡ readWhole asymScheme (now (s .entry)) at ⌝ }
+pub fn ecc_scheme(s: &[u8], at: usize) -> TpmtEccSchemeRead
+    ensures { λ r. ⌜ tpmtEccSchemeAnswer r ≡ readWhole tpmtAsymScheme (now (s .entry)) at ⌝ }
 {
     match TpmtEccScheme::unmarshal(s, at) {
-        EccSchemeRead::Found(x, e) => {
+        TpmtEccSchemeRead::Found(x, e) => {
             if s.len() <= e {
-                return EccSchemeRead::Found(x, e);
+                return TpmtEccSchemeRead::Found(x, e);
             }
             let left = s.len() - e;
-            EccSchemeRead::No(Refusal::trailing(e, left))
+            TpmtEccSchemeRead::No(Refusal::trailing(e, left))
         }
-        EccSchemeRead::No(f) => EccSchemeRead::No(f),
+        TpmtEccSchemeRead::No(f) => TpmtEccSchemeRead::No(f),
     }
 }
 
 // Kind 8, TPMT_RSA_DECRYPT, read whole.
-pub fn rsa_decrypt(s: &[u8], at: usize) -> RsaDecryptRead
-    ensures { λ r. ⌜ rsaDecryptAnswer r ≡ readWhole asymScheme (now (s .entry)) at ⌝ }
+pub fn rsa_decrypt(s: &[u8], at: usize) -> TpmtRsaDecryptRead
+    ensures { λ r. ⌜ tpmtRsaDecryptAnswer r ≡ readWhole tpmtAsymScheme (now (s .entry)) at ⌝ }
 {
     match TpmtRsaDecrypt::unmarshal(s, at) {
-        RsaDecryptRead::Found(x, e) => {
+        TpmtRsaDecryptRead::Found(x, e) => {
             if s.len() <= e {
-                return RsaDecryptRead::Found(x, e);
+                return TpmtRsaDecryptRead::Found(x, e);
             }
             let left = s.len() - e;
-            RsaDecryptRead::No(Refusal::trailing(e, left))
+            TpmtRsaDecryptRead::No(Refusal::trailing(e, left))
         }
-        RsaDecryptRead::No(f) => RsaDecryptRead::No(f),
+        TpmtRsaDecryptRead::No(f) => TpmtRsaDecryptRead::No(f),
     }
 }
 
 // Kind 9, TPMT_PUBLIC_PARMS, read whole.
-pub fn public_parms(s: &[u8], at: usize) -> PublicParmsRead
-    ensures { λ r. ⌜ publicParmsAnswer r ≡ readWhole publicParms (now (s .entry)) at ⌝ }
+pub fn public_parms(s: &[u8], at: usize) -> TpmtPublicParmsRead
+    ensures { λ r. ⌜ tpmtPublicParmsAnswer r ≡ readWhole tpmtPublicParms (now (s .entry)) at ⌝ }
 {
     match TpmtPublicParms::unmarshal(s, at) {
-        PublicParmsRead::Found(x, e) => {
+        TpmtPublicParmsRead::Found(x, e) => {
             if s.len() <= e {
-                return PublicParmsRead::Found(x, e);
+                return TpmtPublicParmsRead::Found(x, e);
             }
             let left = s.len() - e;
-            PublicParmsRead::No(Refusal::trailing(e, left))
+            TpmtPublicParmsRead::No(Refusal::trailing(e, left))
         }
-        PublicParmsRead::No(f) => PublicParmsRead::No(f),
+        TpmtPublicParmsRead::No(f) => TpmtPublicParmsRead::No(f),
     }
 }
 
 // Kind 10, TPMT_SIGNATURE, read whole.
-pub fn signature(s: &[u8], at: usize) -> SignatureRead
-    ensures { λ r. ⌜ signatureAnswer r ≡ readWhole signature (now (s .entry)) at ⌝ }
+pub fn signature(s: &[u8], at: usize) -> TpmtSignatureRead
+    ensures { λ r. ⌜ tpmtSignatureAnswer r ≡ readWhole tpmtSignature (now (s .entry)) at ⌝ }
 {
     match TpmtSignature::unmarshal(s, at) {
-        SignatureRead::Found(x, e) => {
+        TpmtSignatureRead::Found(x, e) => {
             if s.len() <= e {
-                return SignatureRead::Found(x, e);
+                return TpmtSignatureRead::Found(x, e);
             }
             let left = s.len() - e;
-            SignatureRead::No(Refusal::trailing(e, left))
+            TpmtSignatureRead::No(Refusal::trailing(e, left))
         }
-        SignatureRead::No(f) => SignatureRead::No(f),
+        TpmtSignatureRead::No(f) => TpmtSignatureRead::No(f),
     }
 }
 
 // Kind 11, TPMT_PUBLIC, read whole.
-pub fn public_area(s: &[u8], at: usize) -> PublicRead
-    ensures { λ r. ⌜ publicAnswer r ≡ readWhole publicArea (now (s .entry)) at ⌝ }
+pub fn public_area(s: &[u8], at: usize) -> TpmtPublicRead
+    ensures { λ r. ⌜ tpmtPublicAnswer r ≡ readWhole tpmtPublic (now (s .entry)) at ⌝ }
 {
     match TpmtPublic::unmarshal(s, at) {
-        PublicRead::Found(x, e) => {
+        TpmtPublicRead::Found(x, e) => {
             if s.len() <= e {
-                return PublicRead::Found(x, e);
+                return TpmtPublicRead::Found(x, e);
             }
             let left = s.len() - e;
-            PublicRead::No(Refusal::trailing(e, left))
+            TpmtPublicRead::No(Refusal::trailing(e, left))
         }
-        PublicRead::No(f) => PublicRead::No(f),
+        TpmtPublicRead::No(f) => TpmtPublicRead::No(f),
     }
 }
 
 // Kind 12, TPMT_SENSITIVE, read whole.
-pub fn sensitive_area(s: &[u8], at: usize) -> SensitiveRead
-    ensures { λ r. ⌜ sensitiveAnswer r ≡ readWhole sensitive (now (s .entry)) at ⌝ }
+pub fn sensitive_area(s: &[u8], at: usize) -> TpmtSensitiveRead
+    ensures { λ r. ⌜ tpmtSensitiveAnswer r ≡ readWhole tpmtSensitive (now (s .entry)) at ⌝ }
 {
     match TpmtSensitive::unmarshal(s, at) {
-        SensitiveRead::Found(x, e) => {
+        TpmtSensitiveRead::Found(x, e) => {
             if s.len() <= e {
-                return SensitiveRead::Found(x, e);
+                return TpmtSensitiveRead::Found(x, e);
             }
             let left = s.len() - e;
-            SensitiveRead::No(Refusal::trailing(e, left))
+            TpmtSensitiveRead::No(Refusal::trailing(e, left))
         }
-        SensitiveRead::No(f) => SensitiveRead::No(f),
+        TpmtSensitiveRead::No(f) => TpmtSensitiveRead::No(f),
     }
 }
 
 // Kind 13, TPMS_ATTEST, read whole.
-pub fn attestation(s: &[u8], at: usize) -> AttestRead
-    ensures { λ r. ⌜ attestAnswer r ≡ readWhole attest (now (s .entry)) at ⌝ }
+pub fn attestation(s: &[u8], at: usize) -> TpmsAttestRead
+    ensures { λ r. ⌜ tpmsAttestAnswer r ≡ readWhole tpmsAttest (now (s .entry)) at ⌝ }
 {
     match TpmsAttest::unmarshal(s, at) {
-        AttestRead::Found(x, e) => {
+        TpmsAttestRead::Found(x, e) => {
             if s.len() <= e {
-                return AttestRead::Found(x, e);
+                return TpmsAttestRead::Found(x, e);
             }
             let left = s.len() - e;
-            AttestRead::No(Refusal::trailing(e, left))
+            TpmsAttestRead::No(Refusal::trailing(e, left))
         }
-        AttestRead::No(f) => AttestRead::No(f),
+        TpmsAttestRead::No(f) => TpmsAttestRead::No(f),
     }
 }
 
 // Kind 14, TPML_PCR_SELECTION, read whole.
-pub fn pcr_selections(s: &[u8], at: usize) -> PcrSelectionsRead
-    ensures { λ r. ⌜ pcrSelectionsAnswer r ≡ readWhole pcrSelections (now (s .entry)) at ⌝ }
+pub fn pcr_selections(s: &[u8], at: usize) -> TpmlPcrSelectionRead
+    ensures { λ r. ⌜ tpmlPcrSelectionAnswer r ≡ readWhole tpmlPcrSelection (now (s .entry)) at ⌝ }
 {
     match TpmlPcrSelection::unmarshal(s, at) {
-        PcrSelectionsRead::Found(x, e) => {
+        TpmlPcrSelectionRead::Found(x, e) => {
             if s.len() <= e {
-                return PcrSelectionsRead::Found(x, e);
+                return TpmlPcrSelectionRead::Found(x, e);
             }
             let left = s.len() - e;
-            PcrSelectionsRead::No(Refusal::trailing(e, left))
+            TpmlPcrSelectionRead::No(Refusal::trailing(e, left))
         }
-        PcrSelectionsRead::No(f) => PcrSelectionsRead::No(f),
+        TpmlPcrSelectionRead::No(f) => TpmlPcrSelectionRead::No(f),
     }
 }

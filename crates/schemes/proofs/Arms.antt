@@ -15,24 +15,24 @@ use Rattle.wire.specs.Layout.{plain, stop}
 use Rattle.wire.specs.Reading.{span, tag, parsed, piece, read}
 use Rattle.wire.proofs.Steps.{next-found, parsed-same}
 use Rattle.wire.proofs.Rest.{arm-found}
-use Rattle.kinds.specs.Tables.{asymRows, asymArm, sigRows, sigArm}
-use Rattle.kinds.specs.Kinds.{schemeHash, haBody, sigBody}
-use Rattle.schemes.specs.Parts.{held, digestParts}
+use Rattle.kinds.specs.Tables.{tpmuAsymSchemeRows, tpmuAsymSchemeArm, tpmuSigSchemeRows, tpmuSigSchemeArm}
+use Rattle.kinds.specs.Kinds.{tpmsSchemeHash, tpmuHaBody, tpmuSigSchemeBody}
+use Rattle.schemes.specs.Parts.{held, tpmuHaParts}
 use Rattle.schemes.specs.declared.tpmu.TpmuHa.{TpmuHa}
 use Rattle.kinds.proofs.Choices.{chosen-has}
 
 -- an arm of the asymmetric schemes that is not empty holds a hash
-pub asym-hash : (v : ℕ) {t : ℕ} → asymArm v ≡ The t → (t ≡ 0 → ⊥) → t ≡ 1
-unfolding asymArm
-asym-hash v e h = let most = chosen-has (λ t. t ≤ 1) asymRows (omega arith) v e in omega arith
+pub asym-hash : (v : ℕ) {t : ℕ} → tpmuAsymSchemeArm v ≡ The t → (t ≡ 0 → ⊥) → t ≡ 1
+unfolding tpmuAsymSchemeArm
+asym-hash v e h = let most = chosen-has (λ t. t ≤ 1) tpmuAsymSchemeRows (omega arith) v e in omega arith
 
 -- an arm of the signing schemes that is neither empty nor a hash is Hmac's
-pub sig-hmac : (v : ℕ) {t : ℕ} → sigArm v ≡ The t → (t ≡ 0 → ⊥) → (t ≡ 1 → ⊥) → t ≡ 2
-unfolding sigArm
-sig-hmac v e h g = let most = chosen-has (λ t. t ≤ 2) sigRows (omega arith) v e in omega arith
+pub sig-hmac : (v : ℕ) {t : ℕ} → tpmuSigSchemeArm v ≡ The t → (t ≡ 0 → ⊥) → (t ≡ 1 → ⊥) → t ≡ 2
+unfolding tpmuSigSchemeArm
+sig-hmac v e h g = let most = chosen-has (λ t. t ≤ 2) tpmuSigSchemeRows (omega arith) v e in omega arith
 
 -- every arm but the empty one holds a hash code
-pub hash-body : (t : ℕ) → (t ≡ 0 → ⊥) → sigBody t ≡ schemeHash
+pub hash-body : (t : ℕ) → (t ≡ 0 → ⊥) → tpmuSigSchemeBody t ≡ tpmsSchemeHash
 hash-body zero h = absurd (h refl)
 hash-body (suc t) h = refl
 
@@ -46,8 +46,8 @@ plain-length n src at p =
 
 -- so a digest that was read is the arm of its length
 pub digest-found : {c : Choice} {n a l e : ℕ} (v : ℕ) (src : List ℕ) (at : ℕ) → The (suc n) ≡ c → parsed (span a l ∷ []) e ≡ read (plain n stop) src at
-    → parsed (tag (suc l) ∷ span a l ∷ []) e ≡ read (union c haBody v) src at
-digest-found {n = n} {a} {l} {e} v src at q p = ap (λ k. parsed (tag (suc k) ∷ span a l ∷ []) e) (sym (plain-length n src at p)) ∙ arm-found haBody v src at q p
+    → parsed (tag (suc l) ∷ span a l ∷ []) e ≡ read (union c tpmuHaBody v) src at
+digest-found {n = n} {a} {l} {e} v src at q p = ap (λ k. parsed (tag (suc k) ∷ span a l ∷ []) e) (sym (plain-length n src at p)) ∙ arm-found tpmuHaBody v src at q p
 
 -- two lengths are equal when their digests' arms are
 digest-arm-same : (l n : ℕ) → eqb l n ≡ eqb (suc l) (suc n)
@@ -59,17 +59,17 @@ digest-arm-same l n = go (eqb l n) refl
 
 -- a digest is held, or none, and a digest is due, or an empty one, or none
 module _ {u : TpmuHa} {c : Choice} where
-  pub digest-due : {s : Span} {n r : ℕ} → u ≡ TpmuHa.Digest s → The (suc n) ≡ c → r ≡ lenOf s → eqb r n ≡ isArm c (held (digestParts u))
+  pub digest-due : {s : Span} {n r : ℕ} → u ≡ TpmuHa.Digest s → The (suc n) ≡ c → r ≡ lenOf s → eqb r n ≡ isArm c (held (tpmuHaParts u))
   digest-due {s} {n} p q e = rw (p, ← q, e) (digest-arm-same (lenOf s) n)
 
-  pub digest-missing : {n : ℕ} → u ≡ TpmuHa.Null → The (suc n) ≡ c → false ≡ isArm c (held (digestParts u))
+  pub digest-missing : {n : ℕ} → u ≡ TpmuHa.Null → The (suc n) ≡ c → false ≡ isArm c (held (tpmuHaParts u))
   digest-missing {n} p q = rw (p, ← q) (sym (ne-eqb 0 (suc n) (λ e. omega arith)))
 
-  pub digest-not-due : {s : Span} → u ≡ TpmuHa.Digest s → The 0 ≡ c → false ≡ isArm c (held (digestParts u))
+  pub digest-not-due : {s : Span} → u ≡ TpmuHa.Digest s → The 0 ≡ c → false ≡ isArm c (held (tpmuHaParts u))
   digest-not-due {s} p q = rw (p, ← q) (sym (ne-eqb (suc (lenOf s)) 0 (λ e. omega arith)))
 
-  pub empty-due : u ≡ TpmuHa.Null → The 0 ≡ c → true ≡ isArm c (held (digestParts u))
+  pub empty-due : u ≡ TpmuHa.Null → The 0 ≡ c → true ≡ isArm c (held (tpmuHaParts u))
   empty-due p q = rw (p, ← q)
 
-pub none-due : {c : Choice} (u : TpmuHa) → Nothing ≡ c → false ≡ isArm c (held (digestParts u))
+pub none-due : {c : Choice} (u : TpmuHa) → Nothing ≡ c → false ≡ isArm c (held (tpmuHaParts u))
 none-due u q = rw (← q)

@@ -9,11 +9,11 @@ use Rattle.kinds.proofs.Once.{alg-once}
 use Rattle.schemes.specs.declared.tpms.TpmsSchemeHash.{TpmsSchemeHash}
 use Rattle.schemes.specs.declared.tpms.TpmsSchemeXor.{TpmsSchemeXor}
 use Rattle.schemes.specs.declared.tpms.TpmsPcrSelection.{TpmsPcrSelection}
-use Rattle.schemes.specs.declared.tpms.SchemeHashRead.{SchemeHashRead}
-use Rattle.schemes.specs.declared.tpms.SchemeXorRead.{SchemeXorRead}
-use Rattle.schemes.specs.declared.tpms.PcrSelectionRead.{PcrSelectionRead}
+use Rattle.schemes.specs.declared.tpms.TpmsSchemeHashRead.{TpmsSchemeHashRead}
+use Rattle.schemes.specs.declared.tpms.TpmsSchemeXorRead.{TpmsSchemeXorRead}
+use Rattle.schemes.specs.declared.tpms.TpmsPcrSelectionRead.{TpmsPcrSelectionRead}
 use Rattle.schemes.specs.declared.list.TpmlPcrSelection.{TpmlPcrSelection}
-use Rattle.schemes.specs.declared.list.PcrSelectionsRead.{PcrSelectionsRead}
+use Rattle.schemes.specs.declared.list.TpmlPcrSelectionRead.{TpmlPcrSelectionRead}
 use Rattle.schemes.specs.declared.tpmu.TpmuHa.{TpmuHa}
 use Rattle.schemes.specs.declared.tpmu.TpmuAsymScheme.{TpmuAsymScheme}
 use Rattle.schemes.specs.declared.tpmu.TpmuSigScheme.{TpmuSigScheme}
@@ -21,13 +21,13 @@ use Rattle.schemes.specs.declared.tpmu.TpmuKeyedhashScheme.{TpmuKeyedhas
 use Rattle.schemes.specs.declared.tpmu.TpmuKdfScheme.{TpmuKdfScheme}
 use Rattle.schemes.specs.declared.tpmu.TpmuSymKeyBits.{TpmuSymKeyBits}
 use Rattle.schemes.specs.declared.tpmu.TpmuSymMode.{TpmuSymMode}
-use Rattle.schemes.specs.declared.tpmu.DigestRead.{DigestRead}
-use Rattle.schemes.specs.declared.tpmu.AsymSchemeRead.{AsymSchemeRead}
-use Rattle.schemes.specs.declared.tpmu.SigDetailsRead.{SigDetailsRead}
-use Rattle.schemes.specs.declared.tpmu.KeyedhashDetailsRead.{KeyedhashDetailsRead}
-use Rattle.schemes.specs.declared.tpmu.KdfDetailsRead.{KdfDetailsRead}
-use Rattle.schemes.specs.declared.tpmu.SymKeyBitsRead.{SymKeyBitsRead}
-use Rattle.schemes.specs.declared.tpmu.SymModeRead.{SymModeRead}
+use Rattle.schemes.specs.declared.tpmu.TpmuHaRead.{TpmuHaRead}
+use Rattle.schemes.specs.declared.tpmu.TpmuAsymSchemeRead.{TpmuAsymSchemeRead}
+use Rattle.schemes.specs.declared.tpmu.TpmuSigSchemeRead.{TpmuSigSchemeRead}
+use Rattle.schemes.specs.declared.tpmu.TpmuKeyedhashSchemeRead.{TpmuKeyedhashSchemeRead}
+use Rattle.schemes.specs.declared.tpmu.TpmuKdfSchemeRead.{TpmuKdfSchemeRead}
+use Rattle.schemes.specs.declared.tpmu.TpmuSymKeyBitsRead.{TpmuSymKeyBitsRead}
+use Rattle.schemes.specs.declared.tpmu.TpmuSymModeRead.{TpmuSymModeRead}
 use Rattle.schemes.specs.declared.tpmt.TpmtHa.{TpmtHa}
 use Rattle.schemes.specs.declared.tpmt.TpmtSymDef.{TpmtSymDef}
 use Rattle.schemes.specs.declared.tpmt.TpmtKdfScheme.{TpmtKdfScheme}
@@ -36,41 +36,41 @@ use Rattle.schemes.specs.declared.tpmt.TpmtSigScheme.{TpmtSigScheme}
 use Rattle.schemes.specs.declared.tpmt.TpmtRsaScheme.{TpmtRsaScheme}
 use Rattle.schemes.specs.declared.tpmt.TpmtEccScheme.{TpmtEccScheme}
 use Rattle.schemes.specs.declared.tpmt.TpmtRsaDecrypt.{TpmtRsaDecrypt}
-use Rattle.schemes.specs.declared.tpmt.HaRead.{HaRead}
-use Rattle.schemes.specs.declared.tpmt.SymDefRead.{SymDefRead}
-use Rattle.schemes.specs.declared.tpmt.KdfSchemeRead.{KdfSchemeRead}
-use Rattle.schemes.specs.declared.tpmt.KeyedhashSchemeRead.{KeyedhashSchemeRead}
-use Rattle.schemes.specs.declared.tpmt.SigSchemeRead.{SigSchemeRead}
-use Rattle.schemes.specs.declared.tpmt.RsaSchemeRead.{RsaSchemeRead}
-use Rattle.schemes.specs.declared.tpmt.EccSchemeRead.{EccSchemeRead}
-use Rattle.schemes.specs.declared.tpmt.RsaDecryptRead.{RsaDecryptRead}
-use Rattle.schemes.specs.Parts.{schemeHashParts, schemeXorParts, pcrSelectionParts, pcrSelectionsParts, digestParts, asymParts, sigParts, keyedhashParts, kdfParts, keyBitsParts, modeParts, haParts, symDefParts, kdfSchemeParts, keyedhashSchemeParts, sigSchemeParts, rsaSchemeParts, eccSchemeParts, rsaDecryptParts}
-use Rattle.schemes.specs.Answers.{schemeHashAnswer, schemeXorAnswer, pcrSelectionAnswer, pcrSelectionsAnswer, digestAnswer, asymAnswer, sigAnswer, keyedhashAnswer, kdfAnswer, keyBitsAnswer, modeAnswer, haAnswer, symDefAnswer, kdfSchemeAnswer, keyedhashSchemeAnswer, sigSchemeAnswer, rsaSchemeAnswer, eccSchemeAnswer, rsaDecryptAnswer}
+use Rattle.schemes.specs.declared.tpmt.TpmtHaRead.{TpmtHaRead}
+use Rattle.schemes.specs.declared.tpmt.TpmtSymDefRead.{TpmtSymDefRead}
+use Rattle.schemes.specs.declared.tpmt.TpmtKdfSchemeRead.{TpmtKdfSchemeRead}
+use Rattle.schemes.specs.declared.tpmt.TpmtKeyedhashSchemeRead.{TpmtKeyedhashSchemeRead}
+use Rattle.schemes.specs.declared.tpmt.TpmtSigSchemeRead.{TpmtSigSchemeRead}
+use Rattle.schemes.specs.declared.tpmt.TpmtRsaSchemeRead.{TpmtRsaSchemeRead}
+use Rattle.schemes.specs.declared.tpmt.TpmtEccSchemeRead.{TpmtEccSchemeRead}
+use Rattle.schemes.specs.declared.tpmt.TpmtRsaDecryptRead.{TpmtRsaDecryptRead}
+use Rattle.schemes.specs.Parts.{tpmsSchemeHashParts, tpmsSchemeXorParts, tpmsPcrSelectionParts, tpmlPcrSelectionParts, tpmuHaParts, tpmuAsymSchemeParts, tpmuSigSchemeParts, tpmuKeyedhashSchemeParts, tpmuKdfSchemeParts, tpmuSymKeyBitsParts, tpmuSymModeParts, tpmtHaParts, tpmtSymDefParts, tpmtKdfSchemeParts, tpmtKeyedhashSchemeParts, tpmtSigSchemeParts, tpmtRsaSchemeParts, tpmtEccSchemeParts, tpmtRsaDecryptParts}
+use Rattle.schemes.specs.Answers.{tpmsSchemeHashAnswer, tpmsSchemeXorAnswer, tpmsPcrSelectionAnswer, tpmlPcrSelectionAnswer, tpmuHaAnswer, tpmuAsymSchemeAnswer, tpmuSigSchemeAnswer, tpmuKeyedhashSchemeAnswer, tpmuKdfSchemeAnswer, tpmuSymKeyBitsAnswer, tpmuSymModeAnswer, tpmtHaAnswer, tpmtSymDefAnswer, tpmtKdfSchemeAnswer, tpmtKeyedhashSchemeAnswer, tpmtSigSchemeAnswer, tpmtRsaSchemeAnswer, tpmtEccSchemeAnswer, tpmtRsaDecryptAnswer}
 
 -- ---- structures that schemes hold
 
-pub scheme-hash-once : Once schemeHashParts
+pub scheme-hash-once : Once tpmsSchemeHashParts
 scheme-hash-once = fields (λ s. s .«hash_alg») (λ f. record { «hash_alg» = f }) (λ s. refl) alg-once
 
-pub scheme-xor-once : Once schemeXorParts
+pub scheme-xor-once : Once tpmsSchemeXorParts
 scheme-xor-once = fields (λ s. (s .«hash_alg», s .kdf)) (λ (a, b). record { «hash_alg» = a; kdf = b }) (λ s. refl) (both alg-once alg-once)
 
-pub pcr-selection-once : Once pcrSelectionParts
+pub pcr-selection-once : Once tpmsPcrSelectionParts
 pcr-selection-once = fields (λ s. (s .hash, s .«pcr_select»)) (λ (a, b). record { hash = a; «pcr_select» = b }) (λ s. refl) (both alg-once span-once)
 
-pub pcr-selections-once : Once pcrSelectionsParts
+pub pcr-selections-once : Once tpmlPcrSelectionParts
 pcr-selections-once = fields (λ s. s .items) (λ f. record { items = f }) (λ s. refl) span-once
 
 -- ---- unions
 
 -- a digest has an arm for each length
-pub digest-once : Once digestParts
+pub digest-once : Once tpmuHaParts
 digest-once = record {
   take = tagged (elim [ zero ↦ bare zero TpmuHa.Null .take | suc n ↦ holds (suc n) TpmuHa.Digest span-once .take ]);
   back = λ u qs. elim u [ TpmuHa.Null ↦ refl | TpmuHa.Digest s ↦ rw (span-once .back s qs) ];
 }
 
-pub asym-once : Once asymParts
+pub asym-once : Once tpmuAsymSchemeParts
 asym-once =
     union
     (holds hash TpmuAsymScheme.Hash scheme-hash-once
@@ -81,7 +81,7 @@ asym-once =
       | TpmuAsymScheme.Null ↦ refl
     ])
 
-pub sig-once : Once sigParts
+pub sig-once : Once tpmuSigSchemeParts
 sig-once =
     union
     (holds hash TpmuSigScheme.Hash scheme-hash-once
@@ -94,7 +94,7 @@ sig-once =
       | TpmuSigScheme.Null ↦ refl
     ])
 
-pub keyedhash-once : Once keyedhashParts
+pub keyedhash-once : Once tpmuKeyedhashSchemeParts
 keyedhash-once =
     union
     (holds hmac TpmuKeyedhashScheme.Hmac scheme-hash-once
@@ -107,7 +107,7 @@ keyedhash-once =
       | TpmuKeyedhashScheme.Null ↦ refl
     ])
 
-pub kdf-once : Once kdfParts
+pub kdf-once : Once tpmuKdfSchemeParts
 kdf-once =
     union
     (holds mgf1 TpmuKdfScheme.Mgf1 scheme-hash-once
@@ -124,7 +124,7 @@ kdf-once =
       | TpmuKdfScheme.Null ↦ refl
     ])
 
-pub key-bits-once : Once keyBitsParts
+pub key-bits-once : Once tpmuSymKeyBitsParts
 key-bits-once =
     union
     (holds aes TpmuSymKeyBits.Aes number-once
@@ -141,7 +141,7 @@ key-bits-once =
       | TpmuSymKeyBits.Null ↦ refl
     ])
 
-pub mode-once : Once modeParts
+pub mode-once : Once tpmuSymModeParts
 mode-once =
     union
     (holds aes TpmuSymMode.Aes alg-once
@@ -160,85 +160,85 @@ mode-once =
 
 -- ---- kinds 1 to 8
 
-pub ha-once : Once haParts
+pub ha-once : Once tpmtHaParts
 ha-once = fields (λ s. (s .«hash_alg», s .digest)) (λ (a, b). record { «hash_alg» = a; digest = b }) (λ s. refl) (both alg-once digest-once)
 
-pub sym-def-once : Once symDefParts
+pub sym-def-once : Once tpmtSymDefParts
 sym-def-once = fields (λ s. (s .algorithm, (s .«key_bits», s .mode))) (λ (a, (k, m)). record { algorithm = a; «key_bits» = k; mode = m }) (λ s. refl) (both alg-once (both key-bits-once mode-once))
 
-pub kdf-scheme-once : Once kdfSchemeParts
+pub kdf-scheme-once : Once tpmtKdfSchemeParts
 kdf-scheme-once = fields (λ s. (s .scheme, s .details)) (λ (a, d). record { scheme = a; details = d }) (λ s. refl) (both alg-once kdf-once)
 
-pub keyedhash-scheme-once : Once keyedhashSchemeParts
+pub keyedhash-scheme-once : Once tpmtKeyedhashSchemeParts
 keyedhash-scheme-once = fields (λ s. (s .scheme, s .details)) (λ (a, d). record { scheme = a; details = d }) (λ s. refl) (both alg-once keyedhash-once)
 
-pub sig-scheme-once : Once sigSchemeParts
+pub sig-scheme-once : Once tpmtSigSchemeParts
 sig-scheme-once = fields (λ s. (s .scheme, s .details)) (λ (a, d). record { scheme = a; details = d }) (λ s. refl) (both alg-once sig-once)
 
-pub rsa-scheme-once : Once rsaSchemeParts
+pub rsa-scheme-once : Once tpmtRsaSchemeParts
 rsa-scheme-once = fields (λ s. (s .scheme, s .details)) (λ (a, d). record { scheme = a; details = d }) (λ s. refl) (both alg-once asym-once)
 
-pub ecc-scheme-once : Once eccSchemeParts
+pub ecc-scheme-once : Once tpmtEccSchemeParts
 ecc-scheme-once = fields (λ s. (s .scheme, s .details)) (λ (a, d). record { scheme = a; details = d }) (λ s. refl) (both alg-once asym-once)
 
-pub rsa-decrypt-once : Once rsaDecryptParts
+pub rsa-decrypt-once : Once tpmtRsaDecryptParts
 rsa-decrypt-once = fields (λ s. (s .scheme, s .details)) (λ (a, d). record { scheme = a; details = d }) (λ s. refl) (both alg-once asym-once)
 
 -- ---- answers
 
-pub scheme-hash-answer-once : Injective schemeHashAnswer
-scheme-hash-answer-once = answers scheme-hash-once SchemeHashRead.Found SchemeHashRead.No schemeHashAnswer (λ back. elim [ SchemeHashRead.Found x e ↦ back x e | SchemeHashRead.No f ↦ refl ])
+pub scheme-hash-answer-once : Injective tpmsSchemeHashAnswer
+scheme-hash-answer-once = answers scheme-hash-once TpmsSchemeHashRead.Found TpmsSchemeHashRead.No tpmsSchemeHashAnswer (λ back. elim [ TpmsSchemeHashRead.Found x e ↦ back x e | TpmsSchemeHashRead.No f ↦ refl ])
 
-pub scheme-xor-answer-once : Injective schemeXorAnswer
-scheme-xor-answer-once = answers scheme-xor-once SchemeXorRead.Found SchemeXorRead.No schemeXorAnswer (λ back. elim [ SchemeXorRead.Found x e ↦ back x e | SchemeXorRead.No f ↦ refl ])
+pub scheme-xor-answer-once : Injective tpmsSchemeXorAnswer
+scheme-xor-answer-once = answers scheme-xor-once TpmsSchemeXorRead.Found TpmsSchemeXorRead.No tpmsSchemeXorAnswer (λ back. elim [ TpmsSchemeXorRead.Found x e ↦ back x e | TpmsSchemeXorRead.No f ↦ refl ])
 
-pub pcr-selection-answer-once : Injective pcrSelectionAnswer
-pcr-selection-answer-once = answers pcr-selection-once PcrSelectionRead.Found PcrSelectionRead.No pcrSelectionAnswer (λ back. elim [ PcrSelectionRead.Found x e ↦ back x e | PcrSelectionRead.No f ↦ refl ])
+pub pcr-selection-answer-once : Injective tpmsPcrSelectionAnswer
+pcr-selection-answer-once = answers pcr-selection-once TpmsPcrSelectionRead.Found TpmsPcrSelectionRead.No tpmsPcrSelectionAnswer (λ back. elim [ TpmsPcrSelectionRead.Found x e ↦ back x e | TpmsPcrSelectionRead.No f ↦ refl ])
 
-pub pcr-selections-answer-once : Injective pcrSelectionsAnswer
-pcr-selections-answer-once = answers pcr-selections-once PcrSelectionsRead.Found PcrSelectionsRead.No pcrSelectionsAnswer (λ back. elim [ PcrSelectionsRead.Found x e ↦ back x e | PcrSelectionsRead.No f ↦ refl ])
+pub pcr-selections-answer-once : Injective tpmlPcrSelectionAnswer
+pcr-selections-answer-once = answers pcr-selections-once TpmlPcrSelectionRead.Found TpmlPcrSelectionRead.No tpmlPcrSelectionAnswer (λ back. elim [ TpmlPcrSelectionRead.Found x e ↦ back x e | TpmlPcrSelectionRead.No f ↦ refl ])
 
-pub digest-answer-once : Injective digestAnswer
-digest-answer-once = answers digest-once DigestRead.Found DigestRead.No digestAnswer (λ back. elim [ DigestRead.Found x e ↦ back x e | DigestRead.No f ↦ refl ])
+pub digest-answer-once : Injective tpmuHaAnswer
+digest-answer-once = answers digest-once TpmuHaRead.Found TpmuHaRead.No tpmuHaAnswer (λ back. elim [ TpmuHaRead.Found x e ↦ back x e | TpmuHaRead.No f ↦ refl ])
 
-pub asym-answer-once : Injective asymAnswer
-asym-answer-once = answers asym-once AsymSchemeRead.Found AsymSchemeRead.No asymAnswer (λ back. elim [ AsymSchemeRead.Found x e ↦ back x e | AsymSchemeRead.No f ↦ refl ])
+pub asym-answer-once : Injective tpmuAsymSchemeAnswer
+asym-answer-once = answers asym-once TpmuAsymSchemeRead.Found TpmuAsymSchemeRead.No tpmuAsymSchemeAnswer (λ back. elim [ TpmuAsymSchemeRead.Found x e ↦ back x e | TpmuAsymSchemeRead.No f ↦ refl ])
 
-pub sig-answer-once : Injective sigAnswer
-sig-answer-once = answers sig-once SigDetailsRead.Found SigDetailsRead.No sigAnswer (λ back. elim [ SigDetailsRead.Found x e ↦ back x e | SigDetailsRead.No f ↦ refl ])
+pub sig-answer-once : Injective tpmuSigSchemeAnswer
+sig-answer-once = answers sig-once TpmuSigSchemeRead.Found TpmuSigSchemeRead.No tpmuSigSchemeAnswer (λ back. elim [ TpmuSigSchemeRead.Found x e ↦ back x e | TpmuSigSchemeRead.No f ↦ refl ])
 
-pub keyedhash-answer-once : Injective keyedhashAnswer
-keyedhash-answer-once = answers keyedhash-once KeyedhashDetailsRead.Found KeyedhashDetailsRead.No keyedhashAnswer (λ back. elim [ KeyedhashDetailsRead.Found x e ↦ back x e | KeyedhashDetailsRead.No f ↦ refl ])
+pub keyedhash-answer-once : Injective tpmuKeyedhashSchemeAnswer
+keyedhash-answer-once = answers keyedhash-once TpmuKeyedhashSchemeRead.Found TpmuKeyedhashSchemeRead.No tpmuKeyedhashSchemeAnswer (λ back. elim [ TpmuKeyedhashSchemeRead.Found x e ↦ back x e | TpmuKeyedhashSchemeRead.No f ↦ refl ])
 
-pub kdf-answer-once : Injective kdfAnswer
-kdf-answer-once = answers kdf-once KdfDetailsRead.Found KdfDetailsRead.No kdfAnswer (λ back. elim [ KdfDetailsRead.Found x e ↦ back x e | KdfDetailsRead.No f ↦ refl ])
+pub kdf-answer-once : Injective tpmuKdfSchemeAnswer
+kdf-answer-once = answers kdf-once TpmuKdfSchemeRead.Found TpmuKdfSchemeRead.No tpmuKdfSchemeAnswer (λ back. elim [ TpmuKdfSchemeRead.Found x e ↦ back x e | TpmuKdfSchemeRead.No f ↦ refl ])
 
-pub key-bits-answer-once : Injective keyBitsAnswer
-key-bits-answer-once = answers key-bits-once SymKeyBitsRead.Found SymKeyBitsRead.No keyBitsAnswer (λ back. elim [ SymKeyBitsRead.Found x e ↦ back x e | SymKeyBitsRead.No f ↦ refl ])
+pub key-bits-answer-once : Injective tpmuSymKeyBitsAnswer
+key-bits-answer-once = answers key-bits-once TpmuSymKeyBitsRead.Found TpmuSymKeyBitsRead.No tpmuSymKeyBitsAnswer (λ back. elim [ TpmuSymKeyBitsRead.Found x e ↦ back x e | TpmuSymKeyBitsRead.No f ↦ refl ])
 
-pub mode-answer-once : Injective modeAnswer
-mode-answer-once = answers mode-once SymModeRead.Found SymModeRead.No modeAnswer (λ back. elim [ SymModeRead.Found x e ↦ back x e | SymModeRead.No f ↦ refl ])
+pub mode-answer-once : Injective tpmuSymModeAnswer
+mode-answer-once = answers mode-once TpmuSymModeRead.Found TpmuSymModeRead.No tpmuSymModeAnswer (λ back. elim [ TpmuSymModeRead.Found x e ↦ back x e | TpmuSymModeRead.No f ↦ refl ])
 
-pub ha-answer-once : Injective haAnswer
-ha-answer-once = answers ha-once HaRead.Found HaRead.No haAnswer (λ back. elim [ HaRead.Found x e ↦ back x e | HaRead.No f ↦ refl ])
+pub ha-answer-once : Injective tpmtHaAnswer
+ha-answer-once = answers ha-once TpmtHaRead.Found TpmtHaRead.No tpmtHaAnswer (λ back. elim [ TpmtHaRead.Found x e ↦ back x e | TpmtHaRead.No f ↦ refl ])
 
-pub sym-def-answer-once : Injective symDefAnswer
-sym-def-answer-once = answers sym-def-once SymDefRead.Found SymDefRead.No symDefAnswer (λ back. elim [ SymDefRead.Found x e ↦ back x e | SymDefRead.No f ↦ refl ])
+pub sym-def-answer-once : Injective tpmtSymDefAnswer
+sym-def-answer-once = answers sym-def-once TpmtSymDefRead.Found TpmtSymDefRead.No tpmtSymDefAnswer (λ back. elim [ TpmtSymDefRead.Found x e ↦ back x e | TpmtSymDefRead.No f ↦ refl ])
 
-pub kdf-scheme-answer-once : Injective kdfSchemeAnswer
-kdf-scheme-answer-once = answers kdf-scheme-once KdfSchemeRead.Found KdfSchemeRead.No kdfSchemeAnswer (λ back. elim [ KdfSchemeRead.Found x e ↦ back x e | KdfSchemeRead.No f ↦ refl ])
+pub kdf-scheme-answer-once : Injective tpmtKdfSchemeAnswer
+kdf-scheme-answer-once = answers kdf-scheme-once TpmtKdfSchemeRead.Found TpmtKdfSchemeRead.No tpmtKdfSchemeAnswer (λ back. elim [ TpmtKdfSchemeRead.Found x e ↦ back x e | TpmtKdfSchemeRead.No f ↦ refl ])
 
-pub keyedhash-scheme-answer-once : Injective keyedhashSchemeAnswer
-keyedhash-scheme-answer-once = answers keyedhash-scheme-once KeyedhashSchemeRead.Found KeyedhashSchemeRead.No keyedhashSchemeAnswer (λ back. elim [ KeyedhashSchemeRead.Found x e ↦ back x e | KeyedhashSchemeRead.No f ↦ refl ])
+pub keyedhash-scheme-answer-once : Injective tpmtKeyedhashSchemeAnswer
+keyedhash-scheme-answer-once = answers keyedhash-scheme-once TpmtKeyedhashSchemeRead.Found TpmtKeyedhashSchemeRead.No tpmtKeyedhashSchemeAnswer (λ back. elim [ TpmtKeyedhashSchemeRead.Found x e ↦ back x e | TpmtKeyedhashSchemeRead.No f ↦ refl ])
 
-pub sig-scheme-answer-once : Injective sigSchemeAnswer
-sig-scheme-answer-once = answers sig-scheme-once SigSchemeRead.Found SigSchemeRead.No sigSchemeAnswer (λ back. elim [ SigSchemeRead.Found x e ↦ back x e | SigSchemeRead.No f ↦ refl ])
+pub sig-scheme-answer-once : Injective tpmtSigSchemeAnswer
+sig-scheme-answer-once = answers sig-scheme-once TpmtSigSchemeRead.Found TpmtSigSchemeRead.No tpmtSigSchemeAnswer (λ back. elim [ TpmtSigSchemeRead.Found x e ↦ back x e | TpmtSigSchemeRead.No f ↦ refl ])
 
-pub rsa-scheme-answer-once : Injective rsaSchemeAnswer
-rsa-scheme-answer-once = answers rsa-scheme-once RsaSchemeRead.Found RsaSchemeRead.No rsaSchemeAnswer (λ back. elim [ RsaSchemeRead.Found x e ↦ back x e | RsaSchemeRead.No f ↦ refl ])
+pub rsa-scheme-answer-once : Injective tpmtRsaSchemeAnswer
+rsa-scheme-answer-once = answers rsa-scheme-once TpmtRsaSchemeRead.Found TpmtRsaSchemeRead.No tpmtRsaSchemeAnswer (λ back. elim [ TpmtRsaSchemeRead.Found x e ↦ back x e | TpmtRsaSchemeRead.No f ↦ refl ])
 
-pub ecc-scheme-answer-once : Injective eccSchemeAnswer
-ecc-scheme-answer-once = answers ecc-scheme-once EccSchemeRead.Found EccSchemeRead.No eccSchemeAnswer (λ back. elim [ EccSchemeRead.Found x e ↦ back x e | EccSchemeRead.No f ↦ refl ])
+pub ecc-scheme-answer-once : Injective tpmtEccSchemeAnswer
+ecc-scheme-answer-once = answers ecc-scheme-once TpmtEccSchemeRead.Found TpmtEccSchemeRead.No tpmtEccSchemeAnswer (λ back. elim [ TpmtEccSchemeRead.Found x e ↦ back x e | TpmtEccSchemeRead.No f ↦ refl ])
 
-pub rsa-decrypt-answer-once : Injective rsaDecryptAnswer
-rsa-decrypt-answer-once = answers rsa-decrypt-once RsaDecryptRead.Found RsaDecryptRead.No rsaDecryptAnswer (λ back. elim [ RsaDecryptRead.Found x e ↦ back x e | RsaDecryptRead.No f ↦ refl ])
+pub rsa-decrypt-answer-once : Injective tpmtRsaDecryptAnswer
+rsa-decrypt-answer-once = answers rsa-decrypt-once TpmtRsaDecryptRead.Found TpmtRsaDecryptRead.No tpmtRsaDecryptAnswer (λ back. elim [ TpmtRsaDecryptRead.Found x e ↦ back x e | TpmtRsaDecryptRead.No f ↦ refl ])

@@ -1,98 +1,98 @@
 -- What the answers of the readers mean: the parts of the record that was found and the place where it ends, or the refusal. Assumes nothing.
 use Rattle.wire.specs.Reading.{Ans, refused, Parsed, parsed}
-use Rattle.schemes.specs.declared.tpms.SchemeHashRead.{SchemeHashRead}
-use Rattle.schemes.specs.declared.tpms.SchemeXorRead.{SchemeXorRead}
-use Rattle.schemes.specs.declared.tpms.PcrSelectionRead.{PcrSelectionRead}
-use Rattle.schemes.specs.declared.list.PcrSelectionsRead.{PcrSelectionsRead}
-use Rattle.schemes.specs.declared.tpmu.DigestRead.{DigestRead}
-use Rattle.schemes.specs.declared.tpmu.AsymSchemeRead.{AsymSchemeRead}
-use Rattle.schemes.specs.declared.tpmu.SigDetailsRead.{SigDetailsRead}
-use Rattle.schemes.specs.declared.tpmu.KeyedhashDetailsRead.{KeyedhashDetailsRead}
-use Rattle.schemes.specs.declared.tpmu.KdfDetailsRead.{KdfDetailsRead}
-use Rattle.schemes.specs.declared.tpmu.SymKeyBitsRead.{SymKeyBitsRead}
-use Rattle.schemes.specs.declared.tpmu.SymModeRead.{SymModeRead}
-use Rattle.schemes.specs.declared.tpmt.HaRead.{HaRead}
-use Rattle.schemes.specs.declared.tpmt.SymDefRead.{SymDefRead}
-use Rattle.schemes.specs.declared.tpmt.KdfSchemeRead.{KdfSchemeRead}
-use Rattle.schemes.specs.declared.tpmt.KeyedhashSchemeRead.{KeyedhashSchemeRead}
-use Rattle.schemes.specs.declared.tpmt.SigSchemeRead.{SigSchemeRead}
-use Rattle.schemes.specs.declared.tpmt.RsaSchemeRead.{RsaSchemeRead}
-use Rattle.schemes.specs.declared.tpmt.EccSchemeRead.{EccSchemeRead}
-use Rattle.schemes.specs.declared.tpmt.RsaDecryptRead.{RsaDecryptRead}
-use Rattle.schemes.specs.Parts.{schemeHashParts, schemeXorParts, pcrSelectionParts, pcrSelectionsParts, digestParts, asymParts, sigParts, keyedhashParts, kdfParts, keyBitsParts, modeParts, haParts, symDefParts, kdfSchemeParts, keyedhashSchemeParts, sigSchemeParts, rsaSchemeParts, eccSchemeParts, rsaDecryptParts}
+use Rattle.schemes.specs.declared.tpms.TpmsSchemeHashRead.{TpmsSchemeHashRead}
+use Rattle.schemes.specs.declared.tpms.TpmsSchemeXorRead.{TpmsSchemeXorRead}
+use Rattle.schemes.specs.declared.tpms.TpmsPcrSelectionRead.{TpmsPcrSelectionRead}
+use Rattle.schemes.specs.declared.list.TpmlPcrSelectionRead.{TpmlPcrSelectionRead}
+use Rattle.schemes.specs.declared.tpmu.TpmuHaRead.{TpmuHaRead}
+use Rattle.schemes.specs.declared.tpmu.TpmuAsymSchemeRead.{TpmuAsymSchemeRead}
+use Rattle.schemes.specs.declared.tpmu.TpmuSigSchemeRead.{TpmuSigSchemeRead}
+use Rattle.schemes.specs.declared.tpmu.TpmuKeyedhashSchemeRead.{TpmuKeyedhashSchemeRead}
+use Rattle.schemes.specs.declared.tpmu.TpmuKdfSchemeRead.{TpmuKdfSchemeRead}
+use Rattle.schemes.specs.declared.tpmu.TpmuSymKeyBitsRead.{TpmuSymKeyBitsRead}
+use Rattle.schemes.specs.declared.tpmu.TpmuSymModeRead.{TpmuSymModeRead}
+use Rattle.schemes.specs.declared.tpmt.TpmtHaRead.{TpmtHaRead}
+use Rattle.schemes.specs.declared.tpmt.TpmtSymDefRead.{TpmtSymDefRead}
+use Rattle.schemes.specs.declared.tpmt.TpmtKdfSchemeRead.{TpmtKdfSchemeRead}
+use Rattle.schemes.specs.declared.tpmt.TpmtKeyedhashSchemeRead.{TpmtKeyedhashSchemeRead}
+use Rattle.schemes.specs.declared.tpmt.TpmtSigSchemeRead.{TpmtSigSchemeRead}
+use Rattle.schemes.specs.declared.tpmt.TpmtRsaSchemeRead.{TpmtRsaSchemeRead}
+use Rattle.schemes.specs.declared.tpmt.TpmtEccSchemeRead.{TpmtEccSchemeRead}
+use Rattle.schemes.specs.declared.tpmt.TpmtRsaDecryptRead.{TpmtRsaDecryptRead}
+use Rattle.schemes.specs.Parts.{tpmsSchemeHashParts, tpmsSchemeXorParts, tpmsPcrSelectionParts, tpmlPcrSelectionParts, tpmuHaParts, tpmuAsymSchemeParts, tpmuSigSchemeParts, tpmuKeyedhashSchemeParts, tpmuKdfSchemeParts, tpmuSymKeyBitsParts, tpmuSymModeParts, tpmtHaParts, tpmtSymDefParts, tpmtKdfSchemeParts, tpmtKeyedhashSchemeParts, tpmtSigSchemeParts, tpmtRsaSchemeParts, tpmtEccSchemeParts, tpmtRsaDecryptParts}
 
-abbrev pub schemeHashAnswer : SchemeHashRead → Ans Parsed
-schemeHashAnswer (SchemeHashRead.Found x e) = parsed (schemeHashParts x) e
-schemeHashAnswer (SchemeHashRead.No f) = refused f
+abbrev pub tpmsSchemeHashAnswer : TpmsSchemeHashRead → Ans Parsed
+tpmsSchemeHashAnswer (TpmsSchemeHashRead.Found x e) = parsed (tpmsSchemeHashParts x) e
+tpmsSchemeHashAnswer (TpmsSchemeHashRead.No f) = refused f
 
-abbrev pub schemeXorAnswer : SchemeXorRead → Ans Parsed
-schemeXorAnswer (SchemeXorRead.Found x e) = parsed (schemeXorParts x) e
-schemeXorAnswer (SchemeXorRead.No f) = refused f
+abbrev pub tpmsSchemeXorAnswer : TpmsSchemeXorRead → Ans Parsed
+tpmsSchemeXorAnswer (TpmsSchemeXorRead.Found x e) = parsed (tpmsSchemeXorParts x) e
+tpmsSchemeXorAnswer (TpmsSchemeXorRead.No f) = refused f
 
-abbrev pub pcrSelectionAnswer : PcrSelectionRead → Ans Parsed
-pcrSelectionAnswer (PcrSelectionRead.Found x e) = parsed (pcrSelectionParts x) e
-pcrSelectionAnswer (PcrSelectionRead.No f) = refused f
+abbrev pub tpmsPcrSelectionAnswer : TpmsPcrSelectionRead → Ans Parsed
+tpmsPcrSelectionAnswer (TpmsPcrSelectionRead.Found x e) = parsed (tpmsPcrSelectionParts x) e
+tpmsPcrSelectionAnswer (TpmsPcrSelectionRead.No f) = refused f
 
-abbrev pub pcrSelectionsAnswer : PcrSelectionsRead → Ans Parsed
-pcrSelectionsAnswer (PcrSelectionsRead.Found x e) = parsed (pcrSelectionsParts x) e
-pcrSelectionsAnswer (PcrSelectionsRead.No f) = refused f
+abbrev pub tpmlPcrSelectionAnswer : TpmlPcrSelectionRead → Ans Parsed
+tpmlPcrSelectionAnswer (TpmlPcrSelectionRead.Found x e) = parsed (tpmlPcrSelectionParts x) e
+tpmlPcrSelectionAnswer (TpmlPcrSelectionRead.No f) = refused f
 
-abbrev pub digestAnswer : DigestRead → Ans Parsed
-digestAnswer (DigestRead.Found x e) = parsed (digestParts x) e
-digestAnswer (DigestRead.No f) = refused f
+abbrev pub tpmuHaAnswer : TpmuHaRead → Ans Parsed
+tpmuHaAnswer (TpmuHaRead.Found x e) = parsed (tpmuHaParts x) e
+tpmuHaAnswer (TpmuHaRead.No f) = refused f
 
-abbrev pub asymAnswer : AsymSchemeRead → Ans Parsed
-asymAnswer (AsymSchemeRead.Found x e) = parsed (asymParts x) e
-asymAnswer (AsymSchemeRead.No f) = refused f
+abbrev pub tpmuAsymSchemeAnswer : TpmuAsymSchemeRead → Ans Parsed
+tpmuAsymSchemeAnswer (TpmuAsymSchemeRead.Found x e) = parsed (tpmuAsymSchemeParts x) e
+tpmuAsymSchemeAnswer (TpmuAsymSchemeRead.No f) = refused f
 
-abbrev pub sigAnswer : SigDetailsRead → Ans Parsed
-sigAnswer (SigDetailsRead.Found x e) = parsed (sigParts x) e
-sigAnswer (SigDetailsRead.No f) = refused f
+abbrev pub tpmuSigSchemeAnswer : TpmuSigSchemeRead → Ans Parsed
+tpmuSigSchemeAnswer (TpmuSigSchemeRead.Found x e) = parsed (tpmuSigSchemeParts x) e
+tpmuSigSchemeAnswer (TpmuSigSchemeRead.No f) = refused f
 
-abbrev pub keyedhashAnswer : KeyedhashDetailsRead → Ans Parsed
-keyedhashAnswer (KeyedhashDetailsRead.Found x e) = parsed (keyedhashParts x) e
-keyedhashAnswer (KeyedhashDetailsRead.No f) = refused f
+abbrev pub tpmuKeyedhashSchemeAnswer : TpmuKeyedhashSchemeRead → Ans Parsed
+tpmuKeyedhashSchemeAnswer (TpmuKeyedhashSchemeRead.Found x e) = parsed (tpmuKeyedhashSchemeParts x) e
+tpmuKeyedhashSchemeAnswer (TpmuKeyedhashSchemeRead.No f) = refused f
 
-abbrev pub kdfAnswer : KdfDetailsRead → Ans Parsed
-kdfAnswer (KdfDetailsRead.Found x e) = parsed (kdfParts x) e
-kdfAnswer (KdfDetailsRead.No f) = refused f
+abbrev pub tpmuKdfSchemeAnswer : TpmuKdfSchemeRead → Ans Parsed
+tpmuKdfSchemeAnswer (TpmuKdfSchemeRead.Found x e) = parsed (tpmuKdfSchemeParts x) e
+tpmuKdfSchemeAnswer (TpmuKdfSchemeRead.No f) = refused f
 
-abbrev pub keyBitsAnswer : SymKeyBitsRead → Ans Parsed
-keyBitsAnswer (SymKeyBitsRead.Found x e) = parsed (keyBitsParts x) e
-keyBitsAnswer (SymKeyBitsRead.No f) = refused f
+abbrev pub tpmuSymKeyBitsAnswer : TpmuSymKeyBitsRead → Ans Parsed
+tpmuSymKeyBitsAnswer (TpmuSymKeyBitsRead.Found x e) = parsed (tpmuSymKeyBitsParts x) e
+tpmuSymKeyBitsAnswer (TpmuSymKeyBitsRead.No f) = refused f
 
-abbrev pub modeAnswer : SymModeRead → Ans Parsed
-modeAnswer (SymModeRead.Found x e) = parsed (modeParts x) e
-modeAnswer (SymModeRead.No f) = refused f
+abbrev pub tpmuSymModeAnswer : TpmuSymModeRead → Ans Parsed
+tpmuSymModeAnswer (TpmuSymModeRead.Found x e) = parsed (tpmuSymModeParts x) e
+tpmuSymModeAnswer (TpmuSymModeRead.No f) = refused f
 
-abbrev pub haAnswer : HaRead → Ans Parsed
-haAnswer (HaRead.Found x e) = parsed (haParts x) e
-haAnswer (HaRead.No f) = refused f
+abbrev pub tpmtHaAnswer : TpmtHaRead → Ans Parsed
+tpmtHaAnswer (TpmtHaRead.Found x e) = parsed (tpmtHaParts x) e
+tpmtHaAnswer (TpmtHaRead.No f) = refused f
 
-abbrev pub symDefAnswer : SymDefRead → Ans Parsed
-symDefAnswer (SymDefRead.Found x e) = parsed (symDefParts x) e
-symDefAnswer (SymDefRead.No f) = refused f
+abbrev pub tpmtSymDefAnswer : TpmtSymDefRead → Ans Parsed
+tpmtSymDefAnswer (TpmtSymDefRead.Found x e) = parsed (tpmtSymDefParts x) e
+tpmtSymDefAnswer (TpmtSymDefRead.No f) = refused f
 
-abbrev pub kdfSchemeAnswer : KdfSchemeRead → Ans Parsed
-kdfSchemeAnswer (KdfSchemeRead.Found x e) = parsed (kdfSchemeParts x) e
-kdfSchemeAnswer (KdfSchemeRead.No f) = refused f
+abbrev pub tpmtKdfSchemeAnswer : TpmtKdfSchemeRead → Ans Parsed
+tpmtKdfSchemeAnswer (TpmtKdfSchemeRead.Found x e) = parsed (tpmtKdfSchemeParts x) e
+tpmtKdfSchemeAnswer (TpmtKdfSchemeRead.No f) = refused f
 
-abbrev pub keyedhashSchemeAnswer : KeyedhashSchemeRead → Ans Parsed
-keyedhashSchemeAnswer (KeyedhashSchemeRead.Found x e) = parsed (keyedhashSchemeParts x) e
-keyedhashSchemeAnswer (KeyedhashSchemeRead.No f) = refused f
+abbrev pub tpmtKeyedhashSchemeAnswer : TpmtKeyedhashSchemeRead → Ans Parsed
+tpmtKeyedhashSchemeAnswer (TpmtKeyedhashSchemeRead.Found x e) = parsed (tpmtKeyedhashSchemeParts x) e
+tpmtKeyedhashSchemeAnswer (TpmtKeyedhashSchemeRead.No f) = refused f
 
-abbrev pub sigSchemeAnswer : SigSchemeRead → Ans Parsed
-sigSchemeAnswer (SigSchemeRead.Found x e) = parsed (sigSchemeParts x) e
-sigSchemeAnswer (SigSchemeRead.No f) = refused f
+abbrev pub tpmtSigSchemeAnswer : TpmtSigSchemeRead → Ans Parsed
+tpmtSigSchemeAnswer (TpmtSigSchemeRead.Found x e) = parsed (tpmtSigSchemeParts x) e
+tpmtSigSchemeAnswer (TpmtSigSchemeRead.No f) = refused f
 
-abbrev pub rsaSchemeAnswer : RsaSchemeRead → Ans Parsed
-rsaSchemeAnswer (RsaSchemeRead.Found x e) = parsed (rsaSchemeParts x) e
-rsaSchemeAnswer (RsaSchemeRead.No f) = refused f
+abbrev pub tpmtRsaSchemeAnswer : TpmtRsaSchemeRead → Ans Parsed
+tpmtRsaSchemeAnswer (TpmtRsaSchemeRead.Found x e) = parsed (tpmtRsaSchemeParts x) e
+tpmtRsaSchemeAnswer (TpmtRsaSchemeRead.No f) = refused f
 
-abbrev pub eccSchemeAnswer : EccSchemeRead → Ans Parsed
-eccSchemeAnswer (EccSchemeRead.Found x e) = parsed (eccSchemeParts x) e
-eccSchemeAnswer (EccSchemeRead.No f) = refused f
+abbrev pub tpmtEccSchemeAnswer : TpmtEccSchemeRead → Ans Parsed
+tpmtEccSchemeAnswer (TpmtEccSchemeRead.Found x e) = parsed (tpmtEccSchemeParts x) e
+tpmtEccSchemeAnswer (TpmtEccSchemeRead.No f) = refused f
 
-abbrev pub rsaDecryptAnswer : RsaDecryptRead → Ans Parsed
-rsaDecryptAnswer (RsaDecryptRead.Found x e) = parsed (rsaDecryptParts x) e
-rsaDecryptAnswer (RsaDecryptRead.No f) = refused f
+abbrev pub tpmtRsaDecryptAnswer : TpmtRsaDecryptRead → Ans Parsed
+tpmtRsaDecryptAnswer (TpmtRsaDecryptRead.Found x e) = parsed (tpmtRsaDecryptParts x) e
+tpmtRsaDecryptAnswer (TpmtRsaDecryptRead.No f) = refused f

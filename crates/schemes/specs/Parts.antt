@@ -34,83 +34,83 @@ held (span start len ∷ ps) = 0
 
 -- ---- structures that schemes hold
 
-abbrev pub schemeHashParts : TpmsSchemeHash → List Part
-schemeHashParts h = num (h .«hash_alg» .0) ∷ []
+abbrev pub tpmsSchemeHashParts : TpmsSchemeHash → List Part
+tpmsSchemeHashParts h = num (h .«hash_alg» .0) ∷ []
 
-abbrev pub schemeXorParts : TpmsSchemeXor → List Part
-schemeXorParts x = num (x .«hash_alg» .0) ∷ num (x .kdf .0) ∷ []
+abbrev pub tpmsSchemeXorParts : TpmsSchemeXor → List Part
+tpmsSchemeXorParts x = num (x .«hash_alg» .0) ∷ num (x .kdf .0) ∷ []
 
 -- an item of the PCR selection list
-abbrev pub pcrSelectionParts : TpmsPcrSelection → List Part
-pcrSelectionParts p = num (p .hash .0) ∷ spanPart (p .«pcr_select») ∷ []
+abbrev pub tpmsPcrSelectionParts : TpmsPcrSelection → List Part
+tpmsPcrSelectionParts p = num (p .hash .0) ∷ spanPart (p .«pcr_select») ∷ []
 
 -- the list is one part
-abbrev pub pcrSelectionsParts : TpmlPcrSelection → List Part
-pcrSelectionsParts l = spanPart (l .items) ∷ []
+abbrev pub tpmlPcrSelectionParts : TpmlPcrSelection → List Part
+tpmlPcrSelectionParts l = spanPart (l .items) ∷ []
 
 -- ---- unions
 
-abbrev pub digestParts : TpmuHa → List Part
-digestParts TpmuHa.Null = tag empty ∷ []
-digestParts (TpmuHa.Digest s) = tag (digestOf (lenOf s)) ∷ spanPart s ∷ []
+abbrev pub tpmuHaParts : TpmuHa → List Part
+tpmuHaParts TpmuHa.Null = tag empty ∷ []
+tpmuHaParts (TpmuHa.Digest s) = tag (digestOf (lenOf s)) ∷ spanPart s ∷ []
 
-abbrev pub asymParts : TpmuAsymScheme → List Part
-asymParts (TpmuAsymScheme.Hash h) = tag hash ∷ schemeHashParts h
-asymParts TpmuAsymScheme.Null = tag empty ∷ []
+abbrev pub tpmuAsymSchemeParts : TpmuAsymScheme → List Part
+tpmuAsymSchemeParts (TpmuAsymScheme.Hash h) = tag hash ∷ tpmsSchemeHashParts h
+tpmuAsymSchemeParts TpmuAsymScheme.Null = tag empty ∷ []
 
-abbrev pub sigParts : TpmuSigScheme → List Part
-sigParts (TpmuSigScheme.Hash h) = tag hash ∷ schemeHashParts h
-sigParts (TpmuSigScheme.Hmac h) = tag hmacHash ∷ schemeHashParts h
-sigParts TpmuSigScheme.Null = tag empty ∷ []
+abbrev pub tpmuSigSchemeParts : TpmuSigScheme → List Part
+tpmuSigSchemeParts (TpmuSigScheme.Hash h) = tag hash ∷ tpmsSchemeHashParts h
+tpmuSigSchemeParts (TpmuSigScheme.Hmac h) = tag hmacHash ∷ tpmsSchemeHashParts h
+tpmuSigSchemeParts TpmuSigScheme.Null = tag empty ∷ []
 
-abbrev pub keyedhashParts : TpmuKeyedhashScheme → List Part
-keyedhashParts (TpmuKeyedhashScheme.Hmac h) = tag hmac ∷ schemeHashParts h
-keyedhashParts (TpmuKeyedhashScheme.Xor x) = tag xor ∷ schemeXorParts x
-keyedhashParts TpmuKeyedhashScheme.Null = tag null ∷ []
+abbrev pub tpmuKeyedhashSchemeParts : TpmuKeyedhashScheme → List Part
+tpmuKeyedhashSchemeParts (TpmuKeyedhashScheme.Hmac h) = tag hmac ∷ tpmsSchemeHashParts h
+tpmuKeyedhashSchemeParts (TpmuKeyedhashScheme.Xor x) = tag xor ∷ tpmsSchemeXorParts x
+tpmuKeyedhashSchemeParts TpmuKeyedhashScheme.Null = tag null ∷ []
 
-abbrev pub kdfParts : TpmuKdfScheme → List Part
-kdfParts (TpmuKdfScheme.Mgf1 h) = tag mgf1 ∷ schemeHashParts h
-kdfParts (TpmuKdfScheme.«Kdf1Sp800_56a» h) = tag kdf1-sp800-56a ∷ schemeHashParts h
-kdfParts (TpmuKdfScheme.Kdf2 h) = tag kdf2 ∷ schemeHashParts h
-kdfParts (TpmuKdfScheme.«Kdf1Sp800_108» h) = tag kdf1-sp800-108 ∷ schemeHashParts h
-kdfParts TpmuKdfScheme.Null = tag null ∷ []
+abbrev pub tpmuKdfSchemeParts : TpmuKdfScheme → List Part
+tpmuKdfSchemeParts (TpmuKdfScheme.Mgf1 h) = tag mgf1 ∷ tpmsSchemeHashParts h
+tpmuKdfSchemeParts (TpmuKdfScheme.«Kdf1Sp800_56a» h) = tag kdf1-sp800-56a ∷ tpmsSchemeHashParts h
+tpmuKdfSchemeParts (TpmuKdfScheme.Kdf2 h) = tag kdf2 ∷ tpmsSchemeHashParts h
+tpmuKdfSchemeParts (TpmuKdfScheme.«Kdf1Sp800_108» h) = tag kdf1-sp800-108 ∷ tpmsSchemeHashParts h
+tpmuKdfSchemeParts TpmuKdfScheme.Null = tag null ∷ []
 
-abbrev pub keyBitsParts : TpmuSymKeyBits → List Part
-keyBitsParts (TpmuSymKeyBits.Aes n) = tag aes ∷ num n ∷ []
-keyBitsParts (TpmuSymKeyBits.Sm4 n) = tag sm4 ∷ num n ∷ []
-keyBitsParts (TpmuSymKeyBits.Camellia n) = tag camellia ∷ num n ∷ []
-keyBitsParts (TpmuSymKeyBits.Xor h) = tag xor ∷ num (h .0) ∷ []
-keyBitsParts TpmuSymKeyBits.Null = tag null ∷ []
+abbrev pub tpmuSymKeyBitsParts : TpmuSymKeyBits → List Part
+tpmuSymKeyBitsParts (TpmuSymKeyBits.Aes n) = tag aes ∷ num n ∷ []
+tpmuSymKeyBitsParts (TpmuSymKeyBits.Sm4 n) = tag sm4 ∷ num n ∷ []
+tpmuSymKeyBitsParts (TpmuSymKeyBits.Camellia n) = tag camellia ∷ num n ∷ []
+tpmuSymKeyBitsParts (TpmuSymKeyBits.Xor h) = tag xor ∷ num (h .0) ∷ []
+tpmuSymKeyBitsParts TpmuSymKeyBits.Null = tag null ∷ []
 
-abbrev pub modeParts : TpmuSymMode → List Part
-modeParts (TpmuSymMode.Aes m) = tag aes ∷ num (m .0) ∷ []
-modeParts (TpmuSymMode.Sm4 m) = tag sm4 ∷ num (m .0) ∷ []
-modeParts (TpmuSymMode.Camellia m) = tag camellia ∷ num (m .0) ∷ []
-modeParts (TpmuSymMode.Xor m) = tag xor ∷ num (m .0) ∷ []
-modeParts TpmuSymMode.Null = tag null ∷ []
+abbrev pub tpmuSymModeParts : TpmuSymMode → List Part
+tpmuSymModeParts (TpmuSymMode.Aes m) = tag aes ∷ num (m .0) ∷ []
+tpmuSymModeParts (TpmuSymMode.Sm4 m) = tag sm4 ∷ num (m .0) ∷ []
+tpmuSymModeParts (TpmuSymMode.Camellia m) = tag camellia ∷ num (m .0) ∷ []
+tpmuSymModeParts (TpmuSymMode.Xor m) = tag xor ∷ num (m .0) ∷ []
+tpmuSymModeParts TpmuSymMode.Null = tag null ∷ []
 
 -- ---- kinds 1 to 8
 
-abbrev pub haParts : TpmtHa → List Part
-haParts h = num (h .«hash_alg» .0) ∷ digestParts (h .digest)
+abbrev pub tpmtHaParts : TpmtHa → List Part
+tpmtHaParts h = num (h .«hash_alg» .0) ∷ tpmuHaParts (h .digest)
 
-abbrev pub symDefParts : TpmtSymDef → List Part
-symDefParts s = num (s .algorithm .0) ∷ (keyBitsParts (s .«key_bits») ++ modeParts (s .mode))
+abbrev pub tpmtSymDefParts : TpmtSymDef → List Part
+tpmtSymDefParts s = num (s .algorithm .0) ∷ (tpmuSymKeyBitsParts (s .«key_bits») ++ tpmuSymModeParts (s .mode))
 
-abbrev pub kdfSchemeParts : TpmtKdfScheme → List Part
-kdfSchemeParts s = num (s .scheme .0) ∷ kdfParts (s .details)
+abbrev pub tpmtKdfSchemeParts : TpmtKdfScheme → List Part
+tpmtKdfSchemeParts s = num (s .scheme .0) ∷ tpmuKdfSchemeParts (s .details)
 
-abbrev pub keyedhashSchemeParts : TpmtKeyedhashScheme → List Part
-keyedhashSchemeParts s = num (s .scheme .0) ∷ keyedhashParts (s .details)
+abbrev pub tpmtKeyedhashSchemeParts : TpmtKeyedhashScheme → List Part
+tpmtKeyedhashSchemeParts s = num (s .scheme .0) ∷ tpmuKeyedhashSchemeParts (s .details)
 
-abbrev pub sigSchemeParts : TpmtSigScheme → List Part
-sigSchemeParts s = num (s .scheme .0) ∷ sigParts (s .details)
+abbrev pub tpmtSigSchemeParts : TpmtSigScheme → List Part
+tpmtSigSchemeParts s = num (s .scheme .0) ∷ tpmuSigSchemeParts (s .details)
 
-abbrev pub rsaSchemeParts : TpmtRsaScheme → List Part
-rsaSchemeParts s = num (s .scheme .0) ∷ asymParts (s .details)
+abbrev pub tpmtRsaSchemeParts : TpmtRsaScheme → List Part
+tpmtRsaSchemeParts s = num (s .scheme .0) ∷ tpmuAsymSchemeParts (s .details)
 
-abbrev pub eccSchemeParts : TpmtEccScheme → List Part
-eccSchemeParts s = num (s .scheme .0) ∷ asymParts (s .details)
+abbrev pub tpmtEccSchemeParts : TpmtEccScheme → List Part
+tpmtEccSchemeParts s = num (s .scheme .0) ∷ tpmuAsymSchemeParts (s .details)
 
-abbrev pub rsaDecryptParts : TpmtRsaDecrypt → List Part
-rsaDecryptParts s = num (s .scheme .0) ∷ asymParts (s .details)
+abbrev pub tpmtRsaDecryptParts : TpmtRsaDecrypt → List Part
+tpmtRsaDecryptParts s = num (s .scheme .0) ∷ tpmuAsymSchemeParts (s .details)

@@ -1,6 +1,6 @@
 // Kind 14, the PCR selection list: a count, and so many items. A record keeps the whole list as one span.
-use crate::tpms::PcrSelectionRead;
 use crate::tpms::TpmsPcrSelection;
+use crate::tpms::TpmsPcrSelectionRead;
 use kinds::uint::Uint32Read;
 use kinds::uint::uint32;
 use wire::fault::Refusal;
@@ -10,8 +10,8 @@ use wire::widen::wider;
 ghost use mathlib.Core.Path.{_≡_};
 ghost use Rattle.wire.specs.Answers.{measureAnswer};
 ghost use Rattle.wire.specs.Reading.{read, walk, list};
-ghost use Rattle.kinds.specs.Kinds.{pcrSelection, pcrSelections};
-ghost use Rattle.schemes.specs.Answers.{pcrSelectionsAnswer};
+ghost use Rattle.kinds.specs.Kinds.{tpmsPcrSelection, tpmlPcrSelection};
+ghost use Rattle.schemes.specs.Answers.{tpmlPcrSelectionAnswer};
 
 // The most items that a list may have.
 pub const MAX_SELECTIONS: u32 = 16;
@@ -20,14 +20,14 @@ pub struct TpmlPcrSelection {
     pub items: Span,
 }
 
-pub enum PcrSelectionsRead {
+pub enum TpmlPcrSelectionRead {
     Found(TpmlPcrSelection, usize),
     No(Refusal),
 }
 
 // Where `count` items from `at` on end. The walk stops at the first that is not one.
 fn walk_items(s: &[u8], at: usize, count: u32) -> Measure
-    ensures { λ r. ⌜ measureAnswer r ≡ walk (λ s a. read pcrSelection s a) count (now (s .entry)) at ⌝ }
+    ensures { λ r. ⌜ measureAnswer r ≡ walk (λ s a. read tpmsPcrSelection s a) count (now (s .entry)) at ⌝ }
 {
     let mut end = at;
     let mut i: u32 = 0;
@@ -36,18 +36,18 @@ fn walk_items(s: &[u8], at: usize, count: u32) -> Measure
             break Measure::Size(end);
         }
         match TpmsPcrSelection::unmarshal(s, end) {
-            PcrSelectionRead::Found(_, e) => {
+            TpmsPcrSelectionRead::Found(_, e) => {
                 end = e;
                 i += 1;
             }
-            PcrSelectionRead::No(f) => break Measure::No(f),
+            TpmsPcrSelectionRead::No(f) => break Measure::No(f),
         }
     }
 }
 
 // Where the list that begins at `at` ends.
 pub fn list_end(s: &[u8], at: usize) -> Measure
-    ensures { λ r. ⌜ measureAnswer r ≡ list 16 (λ s a. read pcrSelection s a) (now (s .entry)) at ⌝ }
+    ensures { λ r. ⌜ measureAnswer r ≡ list 16 (λ s a. read tpmsPcrSelection s a) (now (s .entry)) at ⌝ }
 {
     match uint32(s, at) {
         Uint32Read::Found(n, e) => {
@@ -62,20 +62,20 @@ pub fn list_end(s: &[u8], at: usize) -> Measure
 
 impl TpmlPcrSelection {
     // Kind 14, TPML_PCR_SELECTION, read.
-    pub fn unmarshal(s: &[u8], at: usize) -> PcrSelectionsRead
-        ensures { λ r. ⌜ pcrSelectionsAnswer r ≡ read pcrSelections (now (s .entry)) at ⌝ }
+    pub fn unmarshal(s: &[u8], at: usize) -> TpmlPcrSelectionRead
+        ensures { λ r. ⌜ tpmlPcrSelectionAnswer r ≡ read tpmlPcrSelection (now (s .entry)) at ⌝ }
     {
         match list_end(s, at) {
             Measure::Size(e) => {
                 let len = e - at;
-                PcrSelectionsRead::Found(
+                TpmlPcrSelectionRead::Found(
                     TpmlPcrSelection {
                         items: Span::new(at, len),
                     },
                     e,
                 )
             }
-            Measure::No(f) => PcrSelectionsRead::No(f),
+            Measure::No(f) => TpmlPcrSelectionRead::No(f),
         }
     }
 }

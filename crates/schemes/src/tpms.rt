@@ -1,6 +1,6 @@
 // The structures that schemes hold.
-use kinds::codes::AlgRead;
 use kinds::codes::TpmAlgId;
+use kinds::codes::TpmAlgIdRead;
 use wire::fault::Refusal;
 use wire::read::SpanRead;
 use wire::read::buffer;
@@ -8,8 +8,8 @@ use wire::span::Span;
 use wire::width::Width;
 ghost use mathlib.Core.Path.{_≡_};
 ghost use Rattle.wire.specs.Reading.{read};
-ghost use Rattle.kinds.specs.Kinds.{schemeHash, schemeXor, pcrSelection};
-ghost use Rattle.schemes.specs.Answers.{schemeHashAnswer, schemeXorAnswer, pcrSelectionAnswer};
+ghost use Rattle.kinds.specs.Kinds.{tpmsSchemeHash, tpmsSchemeXor, tpmsPcrSelection};
+ghost use Rattle.schemes.specs.Answers.{tpmsSchemeHashAnswer, tpmsSchemeXorAnswer, tpmsPcrSelectionAnswer};
 
 pub struct TpmsSchemeHash {
     pub hash_alg: TpmAlgId,
@@ -28,59 +28,59 @@ pub struct TpmsPcrSelection {
     pub pcr_select: Span,
 }
 
-pub enum SchemeHashRead {
+pub enum TpmsSchemeHashRead {
     Found(TpmsSchemeHash, usize),
     No(Refusal),
 }
 
-pub enum SchemeXorRead {
+pub enum TpmsSchemeXorRead {
     Found(TpmsSchemeXor, usize),
     No(Refusal),
 }
 
-pub enum PcrSelectionRead {
+pub enum TpmsPcrSelectionRead {
     Found(TpmsPcrSelection, usize),
     No(Refusal),
 }
 
 impl TpmsSchemeHash {
     // TPMS_SCHEME_HASH, read.
-    pub fn unmarshal(s: &[u8], at: usize) -> SchemeHashRead
-        ensures { λ r. ⌜ schemeHashAnswer r ≡ read schemeHash (now (s .entry)) at ⌝ }
+    pub fn unmarshal(s: &[u8], at: usize) -> TpmsSchemeHashRead
+        ensures { λ r. ⌜ tpmsSchemeHashAnswer r ≡ read tpmsSchemeHash (now (s .entry)) at ⌝ }
     {
         let mut end = at;
         let hash_alg = match TpmAlgId::unmarshal(s, end) {
-            AlgRead::Found(v, e) => {
+            TpmAlgIdRead::Found(v, e) => {
                 end = e;
                 v
             }
-            AlgRead::No(f) => return SchemeHashRead::No(f),
+            TpmAlgIdRead::No(f) => return TpmsSchemeHashRead::No(f),
         };
-        SchemeHashRead::Found(TpmsSchemeHash { hash_alg: hash_alg }, end)
+        TpmsSchemeHashRead::Found(TpmsSchemeHash { hash_alg: hash_alg }, end)
     }
 }
 
 impl TpmsSchemeXor {
     // TPMS_SCHEME_XOR, read.
-    pub fn unmarshal(s: &[u8], at: usize) -> SchemeXorRead
-        ensures { λ r. ⌜ schemeXorAnswer r ≡ read schemeXor (now (s .entry)) at ⌝ }
+    pub fn unmarshal(s: &[u8], at: usize) -> TpmsSchemeXorRead
+        ensures { λ r. ⌜ tpmsSchemeXorAnswer r ≡ read tpmsSchemeXor (now (s .entry)) at ⌝ }
     {
         let mut end = at;
         let hash_alg = match TpmAlgId::unmarshal(s, end) {
-            AlgRead::Found(v, e) => {
+            TpmAlgIdRead::Found(v, e) => {
                 end = e;
                 v
             }
-            AlgRead::No(f) => return SchemeXorRead::No(f),
+            TpmAlgIdRead::No(f) => return TpmsSchemeXorRead::No(f),
         };
         let kdf = match TpmAlgId::unmarshal(s, end) {
-            AlgRead::Found(v, e) => {
+            TpmAlgIdRead::Found(v, e) => {
                 end = e;
                 v
             }
-            AlgRead::No(f) => return SchemeXorRead::No(f),
+            TpmAlgIdRead::No(f) => return TpmsSchemeXorRead::No(f),
         };
-        SchemeXorRead::Found(
+        TpmsSchemeXorRead::Found(
             TpmsSchemeXor {
                 hash_alg: hash_alg,
                 kdf: kdf,
@@ -92,25 +92,25 @@ impl TpmsSchemeXor {
 
 impl TpmsPcrSelection {
     // TPMS_PCR_SELECTION, read.
-    pub fn unmarshal(s: &[u8], at: usize) -> PcrSelectionRead
-        ensures { λ r. ⌜ pcrSelectionAnswer r ≡ read pcrSelection (now (s .entry)) at ⌝ }
+    pub fn unmarshal(s: &[u8], at: usize) -> TpmsPcrSelectionRead
+        ensures { λ r. ⌜ tpmsPcrSelectionAnswer r ≡ read tpmsPcrSelection (now (s .entry)) at ⌝ }
     {
         let mut end = at;
         let hash = match TpmAlgId::unmarshal(s, end) {
-            AlgRead::Found(v, e) => {
+            TpmAlgIdRead::Found(v, e) => {
                 end = e;
                 v
             }
-            AlgRead::No(f) => return PcrSelectionRead::No(f),
+            TpmAlgIdRead::No(f) => return TpmsPcrSelectionRead::No(f),
         };
         let pcr_select = match buffer(s, end, Width::One, 4) {
             SpanRead::Found(v, e) => {
                 end = e;
                 v
             }
-            SpanRead::No(f) => return PcrSelectionRead::No(f),
+            SpanRead::No(f) => return TpmsPcrSelectionRead::No(f),
         };
-        PcrSelectionRead::Found(
+        TpmsPcrSelectionRead::Found(
             TpmsPcrSelection {
                 hash: hash,
                 pcr_select: pcr_select,

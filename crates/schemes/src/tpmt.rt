@@ -1,25 +1,25 @@
 // Kinds 1 to 8: a selector, and the union that it chooses from.
-use crate::tpmu::AsymSchemeRead;
-use crate::tpmu::DigestRead;
-use crate::tpmu::KdfDetailsRead;
-use crate::tpmu::KeyedhashDetailsRead;
-use crate::tpmu::SigDetailsRead;
-use crate::tpmu::SymKeyBitsRead;
-use crate::tpmu::SymModeRead;
 use crate::tpmu::TpmuAsymScheme;
+use crate::tpmu::TpmuAsymSchemeRead;
 use crate::tpmu::TpmuHa;
+use crate::tpmu::TpmuHaRead;
 use crate::tpmu::TpmuKdfScheme;
+use crate::tpmu::TpmuKdfSchemeRead;
 use crate::tpmu::TpmuKeyedhashScheme;
+use crate::tpmu::TpmuKeyedhashSchemeRead;
 use crate::tpmu::TpmuSigScheme;
+use crate::tpmu::TpmuSigSchemeRead;
 use crate::tpmu::TpmuSymKeyBits;
+use crate::tpmu::TpmuSymKeyBitsRead;
 use crate::tpmu::TpmuSymMode;
-use kinds::codes::AlgRead;
+use crate::tpmu::TpmuSymModeRead;
 use kinds::codes::TpmAlgId;
+use kinds::codes::TpmAlgIdRead;
 use wire::fault::Refusal;
 ghost use mathlib.Core.Path.{_≡_};
 ghost use Rattle.wire.specs.Reading.{read};
-ghost use Rattle.kinds.specs.Kinds.{ha, symDef, kdfScheme, keyedhashScheme, sigScheme, asymScheme};
-ghost use Rattle.schemes.specs.Answers.{haAnswer, symDefAnswer, kdfSchemeAnswer, keyedhashSchemeAnswer, sigSchemeAnswer, rsaSchemeAnswer, eccSchemeAnswer, rsaDecryptAnswer};
+ghost use Rattle.kinds.specs.Kinds.{tpmtHa, tpmtSymDef, tpmtKdfScheme, tpmtKeyedhashScheme, tpmtSigScheme, tpmtAsymScheme};
+ghost use Rattle.schemes.specs.Answers.{tpmtHaAnswer, tpmtSymDefAnswer, tpmtKdfSchemeAnswer, tpmtKeyedhashSchemeAnswer, tpmtSigSchemeAnswer, tpmtRsaSchemeAnswer, tpmtEccSchemeAnswer, tpmtRsaDecryptAnswer};
 
 pub struct TpmtHa {
     pub hash_alg: TpmAlgId,
@@ -64,67 +64,67 @@ pub struct TpmtRsaDecrypt {
     pub details: TpmuAsymScheme,
 }
 
-pub enum HaRead {
+pub enum TpmtHaRead {
     Found(TpmtHa, usize),
     No(Refusal),
 }
 
-pub enum SymDefRead {
+pub enum TpmtSymDefRead {
     Found(TpmtSymDef, usize),
     No(Refusal),
 }
 
-pub enum KdfSchemeRead {
+pub enum TpmtKdfSchemeRead {
     Found(TpmtKdfScheme, usize),
     No(Refusal),
 }
 
-pub enum KeyedhashSchemeRead {
+pub enum TpmtKeyedhashSchemeRead {
     Found(TpmtKeyedhashScheme, usize),
     No(Refusal),
 }
 
-pub enum SigSchemeRead {
+pub enum TpmtSigSchemeRead {
     Found(TpmtSigScheme, usize),
     No(Refusal),
 }
 
-pub enum RsaSchemeRead {
+pub enum TpmtRsaSchemeRead {
     Found(TpmtRsaScheme, usize),
     No(Refusal),
 }
 
-pub enum EccSchemeRead {
+pub enum TpmtEccSchemeRead {
     Found(TpmtEccScheme, usize),
     No(Refusal),
 }
 
-pub enum RsaDecryptRead {
+pub enum TpmtRsaDecryptRead {
     Found(TpmtRsaDecrypt, usize),
     No(Refusal),
 }
 
 impl TpmtHa {
     // Kind 1, TPMT_HA, read.
-    pub fn unmarshal(s: &[u8], at: usize) -> HaRead
-        ensures { λ r. ⌜ haAnswer r ≡ read ha (now (s .entry)) at ⌝ }
+    pub fn unmarshal(s: &[u8], at: usize) -> TpmtHaRead
+        ensures { λ r. ⌜ tpmtHaAnswer r ≡ read tpmtHa (now (s .entry)) at ⌝ }
     {
         let mut end = at;
         let hash_alg = match TpmAlgId::unmarshal(s, end) {
-            AlgRead::Found(v, e) => {
+            TpmAlgIdRead::Found(v, e) => {
                 end = e;
                 v
             }
-            AlgRead::No(f) => return HaRead::No(f),
+            TpmAlgIdRead::No(f) => return TpmtHaRead::No(f),
         };
         let digest = match TpmuHa::unmarshal_tagged(hash_alg, s, end) {
-            DigestRead::Found(v, e) => {
+            TpmuHaRead::Found(v, e) => {
                 end = e;
                 v
             }
-            DigestRead::No(f) => return HaRead::No(f),
+            TpmuHaRead::No(f) => return TpmtHaRead::No(f),
         };
-        HaRead::Found(
+        TpmtHaRead::Found(
             TpmtHa {
                 hash_alg: hash_alg,
                 digest: digest,
@@ -136,32 +136,32 @@ impl TpmtHa {
 
 impl TpmtSymDef {
     // Kind 2, TPMT_SYM_DEF, read. Behind a Null cipher there are neither key bits nor a mode.
-    pub fn unmarshal(s: &[u8], at: usize) -> SymDefRead
-        ensures { λ r. ⌜ symDefAnswer r ≡ read symDef (now (s .entry)) at ⌝ }
+    pub fn unmarshal(s: &[u8], at: usize) -> TpmtSymDefRead
+        ensures { λ r. ⌜ tpmtSymDefAnswer r ≡ read tpmtSymDef (now (s .entry)) at ⌝ }
     {
         let mut end = at;
         let algorithm = match TpmAlgId::unmarshal(s, end) {
-            AlgRead::Found(v, e) => {
+            TpmAlgIdRead::Found(v, e) => {
                 end = e;
                 v
             }
-            AlgRead::No(f) => return SymDefRead::No(f),
+            TpmAlgIdRead::No(f) => return TpmtSymDefRead::No(f),
         };
         let key_bits = match TpmuSymKeyBits::unmarshal_tagged(algorithm, s, end) {
-            SymKeyBitsRead::Found(v, e) => {
+            TpmuSymKeyBitsRead::Found(v, e) => {
                 end = e;
                 v
             }
-            SymKeyBitsRead::No(f) => return SymDefRead::No(f),
+            TpmuSymKeyBitsRead::No(f) => return TpmtSymDefRead::No(f),
         };
         let mode = match TpmuSymMode::unmarshal_tagged(algorithm, s, end) {
-            SymModeRead::Found(v, e) => {
+            TpmuSymModeRead::Found(v, e) => {
                 end = e;
                 v
             }
-            SymModeRead::No(f) => return SymDefRead::No(f),
+            TpmuSymModeRead::No(f) => return TpmtSymDefRead::No(f),
         };
-        SymDefRead::Found(
+        TpmtSymDefRead::Found(
             TpmtSymDef {
                 algorithm: algorithm,
                 key_bits: key_bits,
@@ -174,25 +174,25 @@ impl TpmtSymDef {
 
 impl TpmtKdfScheme {
     // Kind 3, TPMT_KDF_SCHEME, read.
-    pub fn unmarshal(s: &[u8], at: usize) -> KdfSchemeRead
-        ensures { λ r. ⌜ kdfSchemeAnswer r ≡ read kdfScheme (now (s .entry)) at ⌝ }
+    pub fn unmarshal(s: &[u8], at: usize) -> TpmtKdfSchemeRead
+        ensures { λ r. ⌜ tpmtKdfSchemeAnswer r ≡ read tpmtKdfScheme (now (s .entry)) at ⌝ }
     {
         let mut end = at;
         let scheme = match TpmAlgId::unmarshal(s, end) {
-            AlgRead::Found(v, e) => {
+            TpmAlgIdRead::Found(v, e) => {
                 end = e;
                 v
             }
-            AlgRead::No(f) => return KdfSchemeRead::No(f),
+            TpmAlgIdRead::No(f) => return TpmtKdfSchemeRead::No(f),
         };
         let details = match TpmuKdfScheme::unmarshal_tagged(scheme, s, end) {
-            KdfDetailsRead::Found(v, e) => {
+            TpmuKdfSchemeRead::Found(v, e) => {
                 end = e;
                 v
             }
-            KdfDetailsRead::No(f) => return KdfSchemeRead::No(f),
+            TpmuKdfSchemeRead::No(f) => return TpmtKdfSchemeRead::No(f),
         };
-        KdfSchemeRead::Found(
+        TpmtKdfSchemeRead::Found(
             TpmtKdfScheme {
                 scheme: scheme,
                 details: details,
@@ -204,25 +204,25 @@ impl TpmtKdfScheme {
 
 impl TpmtKeyedhashScheme {
     // Kind 4, TPMT_KEYEDHASH_SCHEME, read.
-    pub fn unmarshal(s: &[u8], at: usize) -> KeyedhashSchemeRead
-        ensures { λ r. ⌜ keyedhashSchemeAnswer r ≡ read keyedhashScheme (now (s .entry)) at ⌝ }
+    pub fn unmarshal(s: &[u8], at: usize) -> TpmtKeyedhashSchemeRead
+        ensures { λ r. ⌜ tpmtKeyedhashSchemeAnswer r ≡ read tpmtKeyedhashScheme (now (s .entry)) at ⌝ }
     {
         let mut end = at;
         let scheme = match TpmAlgId::unmarshal(s, end) {
-            AlgRead::Found(v, e) => {
+            TpmAlgIdRead::Found(v, e) => {
                 end = e;
                 v
             }
-            AlgRead::No(f) => return KeyedhashSchemeRead::No(f),
+            TpmAlgIdRead::No(f) => return TpmtKeyedhashSchemeRead::No(f),
         };
         let details = match TpmuKeyedhashScheme::unmarshal_tagged(scheme, s, end) {
-            KeyedhashDetailsRead::Found(v, e) => {
+            TpmuKeyedhashSchemeRead::Found(v, e) => {
                 end = e;
                 v
             }
-            KeyedhashDetailsRead::No(f) => return KeyedhashSchemeRead::No(f),
+            TpmuKeyedhashSchemeRead::No(f) => return TpmtKeyedhashSchemeRead::No(f),
         };
-        KeyedhashSchemeRead::Found(
+        TpmtKeyedhashSchemeRead::Found(
             TpmtKeyedhashScheme {
                 scheme: scheme,
                 details: details,
@@ -234,25 +234,25 @@ impl TpmtKeyedhashScheme {
 
 impl TpmtSigScheme {
     // Kind 5, TPMT_SIG_SCHEME, read.
-    pub fn unmarshal(s: &[u8], at: usize) -> SigSchemeRead
-        ensures { λ r. ⌜ sigSchemeAnswer r ≡ read sigScheme (now (s .entry)) at ⌝ }
+    pub fn unmarshal(s: &[u8], at: usize) -> TpmtSigSchemeRead
+        ensures { λ r. ⌜ tpmtSigSchemeAnswer r ≡ read tpmtSigScheme (now (s .entry)) at ⌝ }
     {
         let mut end = at;
         let scheme = match TpmAlgId::unmarshal(s, end) {
-            AlgRead::Found(v, e) => {
+            TpmAlgIdRead::Found(v, e) => {
                 end = e;
                 v
             }
-            AlgRead::No(f) => return SigSchemeRead::No(f),
+            TpmAlgIdRead::No(f) => return TpmtSigSchemeRead::No(f),
         };
         let details = match TpmuSigScheme::unmarshal_tagged(scheme, s, end) {
-            SigDetailsRead::Found(v, e) => {
+            TpmuSigSchemeRead::Found(v, e) => {
                 end = e;
                 v
             }
-            SigDetailsRead::No(f) => return SigSchemeRead::No(f),
+            TpmuSigSchemeRead::No(f) => return TpmtSigSchemeRead::No(f),
         };
-        SigSchemeRead::Found(
+        TpmtSigSchemeRead::Found(
             TpmtSigScheme {
                 scheme: scheme,
                 details: details,
@@ -264,25 +264,25 @@ impl TpmtSigScheme {
 
 impl TpmtRsaScheme {
     // Kind 6, TPMT_RSA_SCHEME, read.
-    pub fn unmarshal(s: &[u8], at: usize) -> RsaSchemeRead
-        ensures { λ r. ⌜ rsaSchemeAnswer r ≡ read asymScheme (now (s .entry)) at ⌝ }
+    pub fn unmarshal(s: &[u8], at: usize) -> TpmtRsaSchemeRead
+        ensures { λ r. ⌜ tpmtRsaSchemeAnswer r ≡ read tpmtAsymScheme (now (s .entry)) at ⌝ }
     {
         let mut end = at;
         let scheme = match TpmAlgId::unmarshal(s, end) {
-            AlgRead::Found(v, e) => {
+            TpmAlgIdRead::Found(v, e) => {
                 end = e;
                 v
             }
-            AlgRead::No(f) => return RsaSchemeRead::No(f),
+            TpmAlgIdRead::No(f) => return TpmtRsaSchemeRead::No(f),
         };
         let details = match TpmuAsymScheme::unmarshal_tagged(scheme, s, end) {
-            AsymSchemeRead::Found(v, e) => {
+            TpmuAsymSchemeRead::Found(v, e) => {
                 end = e;
                 v
             }
-            AsymSchemeRead::No(f) => return RsaSchemeRead::No(f),
+            TpmuAsymSchemeRead::No(f) => return TpmtRsaSchemeRead::No(f),
         };
-        RsaSchemeRead::Found(
+        TpmtRsaSchemeRead::Found(
             TpmtRsaScheme {
                 scheme: scheme,
                 details: details,
@@ -294,25 +294,25 @@ impl TpmtRsaScheme {
 
 impl TpmtEccScheme {
     // Kind 7, TPMT_ECC_SCHEME, read.
-    pub fn unmarshal(s: &[u8], at: usize) -> EccSchemeRead
-        ensures { λ r. ⌜ eccSchemeAnswer r ≡ read asymScheme (now (s .entry)) at ⌝ }
+    pub fn unmarshal(s: &[u8], at: usize) -> TpmtEccSchemeRead
+        ensures { λ r. ⌜ tpmtEccSchemeAnswer r ≡ read tpmtAsymScheme (now (s .entry)) at ⌝ }
     {
         let mut end = at;
         let scheme = match TpmAlgId::unmarshal(s, end) {
-            AlgRead::Found(v, e) => {
+            TpmAlgIdRead::Found(v, e) => {
                 end = e;
                 v
             }
-            AlgRead::No(f) => return EccSchemeRead::No(f),
+            TpmAlgIdRead::No(f) => return TpmtEccSchemeRead::No(f),
         };
         let details = match TpmuAsymScheme::unmarshal_tagged(scheme, s, end) {
-            AsymSchemeRead::Found(v, e) => {
+            TpmuAsymSchemeRead::Found(v, e) => {
                 end = e;
                 v
             }
-            AsymSchemeRead::No(f) => return EccSchemeRead::No(f),
+            TpmuAsymSchemeRead::No(f) => return TpmtEccSchemeRead::No(f),
         };
-        EccSchemeRead::Found(
+        TpmtEccSchemeRead::Found(
             TpmtEccScheme {
                 scheme: scheme,
                 details: details,
@@ -324,25 +324,25 @@ impl TpmtEccScheme {
 
 impl TpmtRsaDecrypt {
     // Kind 8, TPMT_RSA_DECRYPT, read.
-    pub fn unmarshal(s: &[u8], at: usize) -> RsaDecryptRead
-        ensures { λ r. ⌜ rsaDecryptAnswer r ≡ read asymScheme (now (s .entry)) at ⌝ }
+    pub fn unmarshal(s: &[u8], at: usize) -> TpmtRsaDecryptRead
+        ensures { λ r. ⌜ tpmtRsaDecryptAnswer r ≡ read tpmtAsymScheme (now (s .entry)) at ⌝ }
     {
         let mut end = at;
         let scheme = match TpmAlgId::unmarshal(s, end) {
-            AlgRead::Found(v, e) => {
+            TpmAlgIdRead::Found(v, e) => {
                 end = e;
                 v
             }
-            AlgRead::No(f) => return RsaDecryptRead::No(f),
+            TpmAlgIdRead::No(f) => return TpmtRsaDecryptRead::No(f),
         };
         let details = match TpmuAsymScheme::unmarshal_tagged(scheme, s, end) {
-            AsymSchemeRead::Found(v, e) => {
+            TpmuAsymSchemeRead::Found(v, e) => {
                 end = e;
                 v
             }
-            AsymSchemeRead::No(f) => return RsaDecryptRead::No(f),
+            TpmuAsymSchemeRead::No(f) => return TpmtRsaDecryptRead::No(f),
         };
-        RsaDecryptRead::Found(
+        TpmtRsaDecryptRead::Found(
             TpmtRsaDecrypt {
                 scheme: scheme,
                 details: details,

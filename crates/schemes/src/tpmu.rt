@@ -1,13 +1,13 @@
 // The unions of kinds 1 to 8. Each reader goes by the selector, and each `matches_tag` says whether the payload is the arm that
 // the selector chooses.
-use crate::tpms::SchemeHashRead;
-use crate::tpms::SchemeXorRead;
 use crate::tpms::TpmsSchemeHash;
+use crate::tpms::TpmsSchemeHashRead;
 use crate::tpms::TpmsSchemeHmac;
 use crate::tpms::TpmsSchemeXor;
-use kinds::codes::AlgRead;
+use crate::tpms::TpmsSchemeXorRead;
 use kinds::codes::DigestLen;
 use kinds::codes::TpmAlgId;
+use kinds::codes::TpmAlgIdRead;
 use kinds::registry;
 use kinds::uint::Uint16Read;
 use kinds::uint::uint16;
@@ -20,10 +20,10 @@ use wire::widen::wide;
 ghost use mathlib.Core.Path.{_≡_};
 ghost use Rattle.wire.specs.Reading.{read};
 ghost use Rattle.wire.specs.Unions.{isArm};
-ghost use Rattle.kinds.specs.Tables.{digestArm, asymArm, sigArm, keyedhashArm, kdfArm, cipherArm};
-ghost use Rattle.kinds.specs.Kinds.{haBy, asymBy, sigBy, keyedhashBy, kdfBy, keyBitsBy, modeBy};
-ghost use Rattle.schemes.specs.Parts.{held, digestParts, asymParts, sigParts, keyedhashParts, kdfParts, keyBitsParts, modeParts};
-ghost use Rattle.schemes.specs.Answers.{digestAnswer, asymAnswer, sigAnswer, keyedhashAnswer, kdfAnswer, keyBitsAnswer, modeAnswer};
+ghost use Rattle.kinds.specs.Tables.{tpmuHaArm, tpmuAsymSchemeArm, tpmuSigSchemeArm, tpmuKeyedhashSchemeArm, tpmuKdfSchemeArm, cipherArm};
+ghost use Rattle.kinds.specs.Kinds.{tpmuHa, tpmuAsymScheme, tpmuSigScheme, tpmuKeyedhashScheme, tpmuKdfScheme, tpmuSymKeyBits, tpmuSymMode};
+ghost use Rattle.schemes.specs.Parts.{held, tpmuHaParts, tpmuAsymSchemeParts, tpmuSigSchemeParts, tpmuKeyedhashSchemeParts, tpmuKdfSchemeParts, tpmuSymKeyBitsParts, tpmuSymModeParts};
+ghost use Rattle.schemes.specs.Answers.{tpmuHaAnswer, tpmuAsymSchemeAnswer, tpmuSigSchemeAnswer, tpmuKeyedhashSchemeAnswer, tpmuKdfSchemeAnswer, tpmuSymKeyBitsAnswer, tpmuSymModeAnswer};
 
 pub enum TpmuAsymScheme {
     Hash(TpmsSchemeHash),
@@ -71,65 +71,65 @@ pub enum TpmuKdfScheme {
     Null,
 }
 
-pub enum AsymSchemeRead {
+pub enum TpmuAsymSchemeRead {
     Found(TpmuAsymScheme, usize),
     No(Refusal),
 }
 
-pub enum DigestRead {
+pub enum TpmuHaRead {
     Found(TpmuHa, usize),
     No(Refusal),
 }
 
-pub enum SymKeyBitsRead {
+pub enum TpmuSymKeyBitsRead {
     Found(TpmuSymKeyBits, usize),
     No(Refusal),
 }
 
-pub enum SymModeRead {
+pub enum TpmuSymModeRead {
     Found(TpmuSymMode, usize),
     No(Refusal),
 }
 
-pub enum KeyedhashDetailsRead {
+pub enum TpmuKeyedhashSchemeRead {
     Found(TpmuKeyedhashScheme, usize),
     No(Refusal),
 }
 
-pub enum SigDetailsRead {
+pub enum TpmuSigSchemeRead {
     Found(TpmuSigScheme, usize),
     No(Refusal),
 }
 
-pub enum KdfDetailsRead {
+pub enum TpmuKdfSchemeRead {
     Found(TpmuKdfScheme, usize),
     No(Refusal),
 }
 
 impl TpmuAsymScheme {
-    pub fn unmarshal_tagged(tag: TpmAlgId, s: &[u8], at: usize) -> AsymSchemeRead
-        ensures { λ r. ⌜ asymAnswer r ≡ read (asymBy (tag .0)) (now (s .entry)) at ⌝ }
+    pub fn unmarshal_tagged(tag: TpmAlgId, s: &[u8], at: usize) -> TpmuAsymSchemeRead
+        ensures { λ r. ⌜ tpmuAsymSchemeAnswer r ≡ read (tpmuAsymScheme (tag .0)) (now (s .entry)) at ⌝ }
     {
         match tag.asym_arm() {
             Choice::The(t) => {
                 if t == 0 {
-                    return AsymSchemeRead::Found(TpmuAsymScheme::Null, at);
+                    return TpmuAsymSchemeRead::Found(TpmuAsymScheme::Null, at);
                 }
                 match TpmsSchemeHash::unmarshal(s, at) {
-                    SchemeHashRead::Found(x, e) => AsymSchemeRead::Found(
+                    TpmsSchemeHashRead::Found(x, e) => TpmuAsymSchemeRead::Found(
                         TpmuAsymScheme::Hash(x),
                         e,
                     ),
-                    SchemeHashRead::No(f) => AsymSchemeRead::No(f),
+                    TpmsSchemeHashRead::No(f) => TpmuAsymSchemeRead::No(f),
                 }
             }
-            Choice::Nothing => AsymSchemeRead::No(Refusal::no_arm(at, wide(tag.0))),
+            Choice::Nothing => TpmuAsymSchemeRead::No(Refusal::no_arm(at, wide(tag.0))),
         }
     }
 
     // Whether the payload is the arm that the selector chooses.
     pub fn matches_tag(self, tag: TpmAlgId) -> bool
-        ensures { λ r. ⌜ r ≡ isArm (asymArm (tag .0)) (held (asymParts self)) ⌝ }
+        ensures { λ r. ⌜ r ≡ isArm (tpmuAsymSchemeArm (tag .0)) (held (tpmuAsymSchemeParts self)) ⌝ }
     {
         let chosen = tag.asym_arm();
         match self {
@@ -140,22 +140,22 @@ impl TpmuAsymScheme {
 }
 
 impl TpmuHa {
-    pub fn unmarshal_tagged(tag: TpmAlgId, s: &[u8], at: usize) -> DigestRead
-        ensures { λ r. ⌜ digestAnswer r ≡ read (haBy (tag .0)) (now (s .entry)) at ⌝ }
+    pub fn unmarshal_tagged(tag: TpmAlgId, s: &[u8], at: usize) -> TpmuHaRead
+        ensures { λ r. ⌜ tpmuHaAnswer r ≡ read (tpmuHa (tag .0)) (now (s .entry)) at ⌝ }
     {
         match tag.digest_len() {
             DigestLen::Bytes(n) => match plain(s, at, n as usize) {
-                SpanRead::Found(x, e) => DigestRead::Found(TpmuHa::Digest(x), e),
-                SpanRead::No(f) => DigestRead::No(f),
+                SpanRead::Found(x, e) => TpmuHaRead::Found(TpmuHa::Digest(x), e),
+                SpanRead::No(f) => TpmuHaRead::No(f),
             },
-            DigestLen::Empty => DigestRead::Found(TpmuHa::Null, at),
-            DigestLen::Nothing => DigestRead::No(Refusal::no_arm(at, wide(tag.0))),
+            DigestLen::Empty => TpmuHaRead::Found(TpmuHa::Null, at),
+            DigestLen::Nothing => TpmuHaRead::No(Refusal::no_arm(at, wide(tag.0))),
         }
     }
 
     // Whether the payload is the digest that the algorithm has, at its length.
     pub fn matches_tag(self, tag: TpmAlgId) -> bool
-        ensures { λ r. ⌜ r ≡ isArm (digestArm (tag .0)) (held (digestParts self)) ⌝ }
+        ensures { λ r. ⌜ r ≡ isArm (tpmuHaArm (tag .0)) (held (tpmuHaParts self)) ⌝ }
     {
         match tag.digest_len() {
             DigestLen::Bytes(n) => match self {
@@ -172,35 +172,38 @@ impl TpmuHa {
 }
 
 impl TpmuSymKeyBits {
-    pub fn unmarshal_tagged(tag: TpmAlgId, s: &[u8], at: usize) -> SymKeyBitsRead
-        ensures { λ r. ⌜ keyBitsAnswer r ≡ read (keyBitsBy (tag .0)) (now (s .entry)) at ⌝ }
+    pub fn unmarshal_tagged(tag: TpmAlgId, s: &[u8], at: usize) -> TpmuSymKeyBitsRead
+        ensures { λ r. ⌜ tpmuSymKeyBitsAnswer r ≡ read (tpmuSymKeyBits (tag .0)) (now (s .entry)) at ⌝ }
     {
         let v = tag.0;
         match v {
             registry::AES => match uint16(s, at) {
-                Uint16Read::Found(x, e) => SymKeyBitsRead::Found(TpmuSymKeyBits::Aes(x), e),
-                Uint16Read::No(f) => SymKeyBitsRead::No(f),
+                Uint16Read::Found(x, e) => TpmuSymKeyBitsRead::Found(TpmuSymKeyBits::Aes(x), e),
+                Uint16Read::No(f) => TpmuSymKeyBitsRead::No(f),
             },
             registry::SM4 => match uint16(s, at) {
-                Uint16Read::Found(x, e) => SymKeyBitsRead::Found(TpmuSymKeyBits::Sm4(x), e),
-                Uint16Read::No(f) => SymKeyBitsRead::No(f),
+                Uint16Read::Found(x, e) => TpmuSymKeyBitsRead::Found(TpmuSymKeyBits::Sm4(x), e),
+                Uint16Read::No(f) => TpmuSymKeyBitsRead::No(f),
             },
             registry::CAMELLIA => match uint16(s, at) {
-                Uint16Read::Found(x, e) => SymKeyBitsRead::Found(TpmuSymKeyBits::Camellia(x), e),
-                Uint16Read::No(f) => SymKeyBitsRead::No(f),
+                Uint16Read::Found(x, e) => TpmuSymKeyBitsRead::Found(
+                    TpmuSymKeyBits::Camellia(x),
+                    e,
+                ),
+                Uint16Read::No(f) => TpmuSymKeyBitsRead::No(f),
             },
             registry::XOR => match TpmAlgId::unmarshal(s, at) {
-                AlgRead::Found(x, e) => SymKeyBitsRead::Found(TpmuSymKeyBits::Xor(x), e),
-                AlgRead::No(f) => SymKeyBitsRead::No(f),
+                TpmAlgIdRead::Found(x, e) => TpmuSymKeyBitsRead::Found(TpmuSymKeyBits::Xor(x), e),
+                TpmAlgIdRead::No(f) => TpmuSymKeyBitsRead::No(f),
             },
-            registry::NULL => SymKeyBitsRead::Found(TpmuSymKeyBits::Null, at),
-            _ => SymKeyBitsRead::No(Refusal::no_arm(at, wide(v))),
+            registry::NULL => TpmuSymKeyBitsRead::Found(TpmuSymKeyBits::Null, at),
+            _ => TpmuSymKeyBitsRead::No(Refusal::no_arm(at, wide(v))),
         }
     }
 
     // Whether the payload is the arm that the selector chooses.
     pub fn matches_tag(self, tag: TpmAlgId) -> bool
-        ensures { λ r. ⌜ r ≡ isArm (cipherArm (tag .0)) (held (keyBitsParts self)) ⌝ }
+        ensures { λ r. ⌜ r ≡ isArm (cipherArm (tag .0)) (held (tpmuSymKeyBitsParts self)) ⌝ }
     {
         let chosen = tag.cipher_arm();
         match self {
@@ -214,35 +217,35 @@ impl TpmuSymKeyBits {
 }
 
 impl TpmuSymMode {
-    pub fn unmarshal_tagged(tag: TpmAlgId, s: &[u8], at: usize) -> SymModeRead
-        ensures { λ r. ⌜ modeAnswer r ≡ read (modeBy (tag .0)) (now (s .entry)) at ⌝ }
+    pub fn unmarshal_tagged(tag: TpmAlgId, s: &[u8], at: usize) -> TpmuSymModeRead
+        ensures { λ r. ⌜ tpmuSymModeAnswer r ≡ read (tpmuSymMode (tag .0)) (now (s .entry)) at ⌝ }
     {
         let v = tag.0;
         match v {
             registry::AES => match TpmAlgId::unmarshal(s, at) {
-                AlgRead::Found(x, e) => SymModeRead::Found(TpmuSymMode::Aes(x), e),
-                AlgRead::No(f) => SymModeRead::No(f),
+                TpmAlgIdRead::Found(x, e) => TpmuSymModeRead::Found(TpmuSymMode::Aes(x), e),
+                TpmAlgIdRead::No(f) => TpmuSymModeRead::No(f),
             },
             registry::SM4 => match TpmAlgId::unmarshal(s, at) {
-                AlgRead::Found(x, e) => SymModeRead::Found(TpmuSymMode::Sm4(x), e),
-                AlgRead::No(f) => SymModeRead::No(f),
+                TpmAlgIdRead::Found(x, e) => TpmuSymModeRead::Found(TpmuSymMode::Sm4(x), e),
+                TpmAlgIdRead::No(f) => TpmuSymModeRead::No(f),
             },
             registry::CAMELLIA => match TpmAlgId::unmarshal(s, at) {
-                AlgRead::Found(x, e) => SymModeRead::Found(TpmuSymMode::Camellia(x), e),
-                AlgRead::No(f) => SymModeRead::No(f),
+                TpmAlgIdRead::Found(x, e) => TpmuSymModeRead::Found(TpmuSymMode::Camellia(x), e),
+                TpmAlgIdRead::No(f) => TpmuSymModeRead::No(f),
             },
             registry::XOR => match TpmAlgId::unmarshal(s, at) {
-                AlgRead::Found(x, e) => SymModeRead::Found(TpmuSymMode::Xor(x), e),
-                AlgRead::No(f) => SymModeRead::No(f),
+                TpmAlgIdRead::Found(x, e) => TpmuSymModeRead::Found(TpmuSymMode::Xor(x), e),
+                TpmAlgIdRead::No(f) => TpmuSymModeRead::No(f),
             },
-            registry::NULL => SymModeRead::Found(TpmuSymMode::Null, at),
-            _ => SymModeRead::No(Refusal::no_arm(at, wide(v))),
+            registry::NULL => TpmuSymModeRead::Found(TpmuSymMode::Null, at),
+            _ => TpmuSymModeRead::No(Refusal::no_arm(at, wide(v))),
         }
     }
 
     // Whether the payload is the arm that the selector chooses.
     pub fn matches_tag(self, tag: TpmAlgId) -> bool
-        ensures { λ r. ⌜ r ≡ isArm (cipherArm (tag .0)) (held (modeParts self)) ⌝ }
+        ensures { λ r. ⌜ r ≡ isArm (cipherArm (tag .0)) (held (tpmuSymModeParts self)) ⌝ }
     {
         let chosen = tag.cipher_arm();
         match self {
@@ -256,33 +259,33 @@ impl TpmuSymMode {
 }
 
 impl TpmuKeyedhashScheme {
-    pub fn unmarshal_tagged(tag: TpmAlgId, s: &[u8], at: usize) -> KeyedhashDetailsRead
-        ensures { λ r. ⌜ keyedhashAnswer r ≡ read (keyedhashBy (tag .0)) (now (s .entry)) at ⌝ }
+    pub fn unmarshal_tagged(tag: TpmAlgId, s: &[u8], at: usize) -> TpmuKeyedhashSchemeRead
+        ensures { λ r. ⌜ tpmuKeyedhashSchemeAnswer r ≡ read (tpmuKeyedhashScheme (tag .0)) (now (s .entry)) at ⌝ }
     {
         let v = tag.0;
         match v {
             registry::HMAC => match TpmsSchemeHash::unmarshal(s, at) {
-                SchemeHashRead::Found(x, e) => KeyedhashDetailsRead::Found(
+                TpmsSchemeHashRead::Found(x, e) => TpmuKeyedhashSchemeRead::Found(
                     TpmuKeyedhashScheme::Hmac(x),
                     e,
                 ),
-                SchemeHashRead::No(f) => KeyedhashDetailsRead::No(f),
+                TpmsSchemeHashRead::No(f) => TpmuKeyedhashSchemeRead::No(f),
             },
             registry::XOR => match TpmsSchemeXor::unmarshal(s, at) {
-                SchemeXorRead::Found(x, e) => KeyedhashDetailsRead::Found(
+                TpmsSchemeXorRead::Found(x, e) => TpmuKeyedhashSchemeRead::Found(
                     TpmuKeyedhashScheme::Xor(x),
                     e,
                 ),
-                SchemeXorRead::No(f) => KeyedhashDetailsRead::No(f),
+                TpmsSchemeXorRead::No(f) => TpmuKeyedhashSchemeRead::No(f),
             },
-            registry::NULL => KeyedhashDetailsRead::Found(TpmuKeyedhashScheme::Null, at),
-            _ => KeyedhashDetailsRead::No(Refusal::no_arm(at, wide(v))),
+            registry::NULL => TpmuKeyedhashSchemeRead::Found(TpmuKeyedhashScheme::Null, at),
+            _ => TpmuKeyedhashSchemeRead::No(Refusal::no_arm(at, wide(v))),
         }
     }
 
     // Whether the payload is the arm that the selector chooses.
     pub fn matches_tag(self, tag: TpmAlgId) -> bool
-        ensures { λ r. ⌜ r ≡ isArm (keyedhashArm (tag .0)) (held (keyedhashParts self)) ⌝ }
+        ensures { λ r. ⌜ r ≡ isArm (tpmuKeyedhashSchemeArm (tag .0)) (held (tpmuKeyedhashSchemeParts self)) ⌝ }
     {
         let chosen = tag.keyedhash_arm();
         match self {
@@ -294,31 +297,31 @@ impl TpmuKeyedhashScheme {
 }
 
 impl TpmuSigScheme {
-    pub fn unmarshal_tagged(tag: TpmAlgId, s: &[u8], at: usize) -> SigDetailsRead
-        ensures { λ r. ⌜ sigAnswer r ≡ read (sigBy (tag .0)) (now (s .entry)) at ⌝ }
+    pub fn unmarshal_tagged(tag: TpmAlgId, s: &[u8], at: usize) -> TpmuSigSchemeRead
+        ensures { λ r. ⌜ tpmuSigSchemeAnswer r ≡ read (tpmuSigScheme (tag .0)) (now (s .entry)) at ⌝ }
     {
         match tag.sig_arm() {
             Choice::The(t) => {
                 if t == 0 {
-                    return SigDetailsRead::Found(TpmuSigScheme::Null, at);
+                    return TpmuSigSchemeRead::Found(TpmuSigScheme::Null, at);
                 }
                 match TpmsSchemeHash::unmarshal(s, at) {
-                    SchemeHashRead::Found(x, e) => {
+                    TpmsSchemeHashRead::Found(x, e) => {
                         if t == 1 {
-                            return SigDetailsRead::Found(TpmuSigScheme::Hash(x), e);
+                            return TpmuSigSchemeRead::Found(TpmuSigScheme::Hash(x), e);
                         }
-                        SigDetailsRead::Found(TpmuSigScheme::Hmac(x), e)
+                        TpmuSigSchemeRead::Found(TpmuSigScheme::Hmac(x), e)
                     }
-                    SchemeHashRead::No(f) => SigDetailsRead::No(f),
+                    TpmsSchemeHashRead::No(f) => TpmuSigSchemeRead::No(f),
                 }
             }
-            Choice::Nothing => SigDetailsRead::No(Refusal::no_arm(at, wide(tag.0))),
+            Choice::Nothing => TpmuSigSchemeRead::No(Refusal::no_arm(at, wide(tag.0))),
         }
     }
 
     // Whether the payload is the arm that the selector chooses.
     pub fn matches_tag(self, tag: TpmAlgId) -> bool
-        ensures { λ r. ⌜ r ≡ isArm (sigArm (tag .0)) (held (sigParts self)) ⌝ }
+        ensures { λ r. ⌜ r ≡ isArm (tpmuSigSchemeArm (tag .0)) (held (tpmuSigSchemeParts self)) ⌝ }
     {
         let chosen = tag.sig_arm();
         match self {
@@ -330,41 +333,47 @@ impl TpmuSigScheme {
 }
 
 impl TpmuKdfScheme {
-    pub fn unmarshal_tagged(tag: TpmAlgId, s: &[u8], at: usize) -> KdfDetailsRead
-        ensures { λ r. ⌜ kdfAnswer r ≡ read (kdfBy (tag .0)) (now (s .entry)) at ⌝ }
+    pub fn unmarshal_tagged(tag: TpmAlgId, s: &[u8], at: usize) -> TpmuKdfSchemeRead
+        ensures { λ r. ⌜ tpmuKdfSchemeAnswer r ≡ read (tpmuKdfScheme (tag .0)) (now (s .entry)) at ⌝ }
     {
         let v = tag.0;
         match v {
             registry::MGF1 => match TpmsSchemeHash::unmarshal(s, at) {
-                SchemeHashRead::Found(x, e) => KdfDetailsRead::Found(TpmuKdfScheme::Mgf1(x), e),
-                SchemeHashRead::No(f) => KdfDetailsRead::No(f),
+                TpmsSchemeHashRead::Found(x, e) => TpmuKdfSchemeRead::Found(
+                    TpmuKdfScheme::Mgf1(x),
+                    e,
+                ),
+                TpmsSchemeHashRead::No(f) => TpmuKdfSchemeRead::No(f),
             },
             registry::KDF1_SP800_56A => match TpmsSchemeHash::unmarshal(s, at) {
-                SchemeHashRead::Found(x, e) => KdfDetailsRead::Found(
+                TpmsSchemeHashRead::Found(x, e) => TpmuKdfSchemeRead::Found(
                     TpmuKdfScheme::Kdf1Sp800_56a(x),
                     e,
                 ),
-                SchemeHashRead::No(f) => KdfDetailsRead::No(f),
+                TpmsSchemeHashRead::No(f) => TpmuKdfSchemeRead::No(f),
             },
             registry::KDF2 => match TpmsSchemeHash::unmarshal(s, at) {
-                SchemeHashRead::Found(x, e) => KdfDetailsRead::Found(TpmuKdfScheme::Kdf2(x), e),
-                SchemeHashRead::No(f) => KdfDetailsRead::No(f),
+                TpmsSchemeHashRead::Found(x, e) => TpmuKdfSchemeRead::Found(
+                    TpmuKdfScheme::Kdf2(x),
+                    e,
+                ),
+                TpmsSchemeHashRead::No(f) => TpmuKdfSchemeRead::No(f),
             },
             registry::KDF1_SP800_108 => match TpmsSchemeHash::unmarshal(s, at) {
-                SchemeHashRead::Found(x, e) => KdfDetailsRead::Found(
+                TpmsSchemeHashRead::Found(x, e) => TpmuKdfSchemeRead::Found(
                     TpmuKdfScheme::Kdf1Sp800_108(x),
                     e,
                 ),
-                SchemeHashRead::No(f) => KdfDetailsRead::No(f),
+                TpmsSchemeHashRead::No(f) => TpmuKdfSchemeRead::No(f),
             },
-            registry::NULL => KdfDetailsRead::Found(TpmuKdfScheme::Null, at),
-            _ => KdfDetailsRead::No(Refusal::no_arm(at, wide(v))),
+            registry::NULL => TpmuKdfSchemeRead::Found(TpmuKdfScheme::Null, at),
+            _ => TpmuKdfSchemeRead::No(Refusal::no_arm(at, wide(v))),
         }
     }
 
     // Whether the payload is the arm that the selector chooses.
     pub fn matches_tag(self, tag: TpmAlgId) -> bool
-        ensures { λ r. ⌜ r ≡ isArm (kdfArm (tag .0)) (held (kdfParts self)) ⌝ }
+        ensures { λ r. ⌜ r ≡ isArm (tpmuKdfSchemeArm (tag .0)) (held (tpmuKdfSchemeParts self)) ⌝ }
     {
         let chosen = tag.kdf_arm();
         match self {

@@ -18,106 +18,106 @@ use schemes::tpmt::TpmtRsaScheme;
 use schemes::tpmt::TpmtSigScheme;
 use schemes::tpmt::TpmtSymDef;
 use wire::measure::Measure;
-ghost use Rattle.kinds.specs.Kinds.{ha, symDef, kdfScheme, keyedhashScheme, sigScheme, asymScheme, publicParms, signature, publicArea, sensitive, attest, pcrSelections};
-ghost use Rattle.schemes.specs.Parts.{haParts, symDefParts, kdfSchemeParts, keyedhashSchemeParts, sigSchemeParts, rsaSchemeParts, eccSchemeParts, rsaDecryptParts, pcrSelectionsParts};
-ghost use Rattle.keys.specs.Parts.{publicParmsParts, signatureParts, publicParts, sensitiveParts};
-ghost use Rattle.attest.specs.Parts.{attestParts};
+ghost use Rattle.kinds.specs.Kinds.{tpmtHa, tpmtSymDef, tpmtKdfScheme, tpmtKeyedhashScheme, tpmtSigScheme, tpmtAsymScheme, tpmtPublicParms, tpmtSignature, tpmtPublic, tpmtSensitive, tpmsAttest, tpmlPcrSelection};
+ghost use Rattle.schemes.specs.Parts.{tpmtHaParts, tpmtSymDefParts, tpmtKdfSchemeParts, tpmtKeyedhashSchemeParts, tpmtSigSchemeParts, tpmtRsaSchemeParts, tpmtEccSchemeParts, tpmtRsaDecryptParts, tpmlPcrSelectionParts};
+ghost use Rattle.keys.specs.Parts.{tpmtPublicParmsParts, tpmtSignatureParts, tpmtPublicParts, tpmtSensitiveParts};
+ghost use Rattle.attest.specs.Parts.{tpmsAttestParts};
 ghost use Rattle.writing.specs.Writes.{Writes};
 
 // Kind 1, TPMT_HA, written.
 pub fn ha(x: TpmtHa, src: &[u8], out: &mut [u8]) -> Measure
-    ensures { λ r. ⌜ Writes ha (haParts x) (now (src .entry)) (now (out .entry)) r (now (out .exit)) ⌝ }
+    ensures { λ r. ⌜ Writes tpmtHa (tpmtHaParts x) (now (src .entry)) (now (out .entry)) r (now (out .exit)) ⌝ }
 {
     tpmt::ha(Plan::empty(), x).write(src, out)
 }
 
 // Kind 2, TPMT_SYM_DEF, written.
 pub fn sym_def(x: TpmtSymDef, src: &[u8], out: &mut [u8]) -> Measure
-    ensures { λ r. ⌜ Writes symDef (symDefParts x) (now (src .entry)) (now (out .entry)) r (now (out .exit)) ⌝ }
+    ensures { λ r. ⌜ Writes tpmtSymDef (tpmtSymDefParts x) (now (src .entry)) (now (out .entry)) r (now (out .exit)) ⌝ }
 {
     tpmt::sym_def(Plan::empty(), x).write(src, out)
 }
 
 // Kind 3, TPMT_KDF_SCHEME, written.
 pub fn kdf_scheme(x: TpmtKdfScheme, src: &[u8], out: &mut [u8]) -> Measure
-    ensures { λ r. ⌜ Writes kdfScheme (kdfSchemeParts x) (now (src .entry)) (now (out .entry)) r (now (out .exit)) ⌝ }
+    ensures { λ r. ⌜ Writes tpmtKdfScheme (tpmtKdfSchemeParts x) (now (src .entry)) (now (out .entry)) r (now (out .exit)) ⌝ }
 {
     tpmt::kdf_scheme(Plan::empty(), x).write(src, out)
 }
 
 // Kind 4, TPMT_KEYEDHASH_SCHEME, written.
 pub fn keyedhash_scheme(x: TpmtKeyedhashScheme, src: &[u8], out: &mut [u8]) -> Measure
-    ensures { λ r. ⌜ Writes keyedhashScheme (keyedhashSchemeParts x) (now (src .entry)) (now (out .entry)) r (now (out .exit)) ⌝ }
+    ensures { λ r. ⌜ Writes tpmtKeyedhashScheme (tpmtKeyedhashSchemeParts x) (now (src .entry)) (now (out .entry)) r (now (out .exit)) ⌝ }
 {
     tpmt::keyedhash_scheme(Plan::empty(), x).write(src, out)
 }
 
 // Kind 5, TPMT_SIG_SCHEME, written.
 pub fn sig_scheme(x: TpmtSigScheme, src: &[u8], out: &mut [u8]) -> Measure
-    ensures { λ r. ⌜ Writes sigScheme (sigSchemeParts x) (now (src .entry)) (now (out .entry)) r (now (out .exit)) ⌝ }
+    ensures { λ r. ⌜ Writes tpmtSigScheme (tpmtSigSchemeParts x) (now (src .entry)) (now (out .entry)) r (now (out .exit)) ⌝ }
 {
     tpmt::sig_scheme(Plan::empty(), x).write(src, out)
 }
 
 // Kind 6, TPMT_RSA_SCHEME, written.
 pub fn rsa_scheme(x: TpmtRsaScheme, src: &[u8], out: &mut [u8]) -> Measure
-    ensures { λ r. ⌜ Writes asymScheme (rsaSchemeParts x) (now (src .entry)) (now (out .entry)) r (now (out .exit)) ⌝ }
+    ensures { λ r. ⌜ Writes tpmtAsymScheme (tpmtRsaSchemeParts x) (now (src .entry)) (now (out .entry)) r (now (out .exit)) ⌝ }
 {
     tpmt::rsa_scheme(Plan::empty(), x).write(src, out)
 }
 
 // Kind 7, TPMT_ECC_SCHEME, written.
 pub fn ecc_scheme(x: TpmtEccScheme, src: &[u8], out: &mut [u8]) -> Measure
-    ensures { λ r. ⌜ Writes asymScheme (eccSchemeParts x) (now (src .entry)) (now (out .entry)) r (now (out .exit)) ⌝ }
+    ensures { λ r. ⌜ Writes tpmtAsymScheme (tpmtEccSchemeParts x) (now (src .entry)) (now (out .entry)) r (now (out .exit)) ⌝ }
 {
     tpmt::ecc_scheme(Plan::empty(), x).write(src, out)
 }
 
 // Kind 8, TPMT_RSA_DECRYPT, written.
 pub fn rsa_decrypt(x: TpmtRsaDecrypt, src: &[u8], out: &mut [u8]) -> Measure
-    ensures { λ r. ⌜ Writes asymScheme (rsaDecryptParts x) (now (src .entry)) (now (out .entry)) r (now (out .exit)) ⌝ }
+    ensures { λ r. ⌜ Writes tpmtAsymScheme (tpmtRsaDecryptParts x) (now (src .entry)) (now (out .entry)) r (now (out .exit)) ⌝ }
 {
     tpmt::rsa_decrypt(Plan::empty(), x).write(src, out)
 }
 
 // Kind 9, TPMT_PUBLIC_PARMS, written.
 pub fn public_parms(x: TpmtPublicParms, src: &[u8], out: &mut [u8]) -> Measure
-    ensures { λ r. ⌜ Writes publicParms (publicParmsParts x) (now (src .entry)) (now (out .entry)) r (now (out .exit)) ⌝ }
+    ensures { λ r. ⌜ Writes tpmtPublicParms (tpmtPublicParmsParts x) (now (src .entry)) (now (out .entry)) r (now (out .exit)) ⌝ }
 {
     tpmt::public_parms(Plan::empty(), x).write(src, out)
 }
 
 // Kind 10, TPMT_SIGNATURE, written.
 pub fn signature(x: TpmtSignature, src: &[u8], out: &mut [u8]) -> Measure
-    ensures { λ r. ⌜ Writes signature (signatureParts x) (now (src .entry)) (now (out .entry)) r (now (out .exit)) ⌝ }
+    ensures { λ r. ⌜ Writes tpmtSignature (tpmtSignatureParts x) (now (src .entry)) (now (out .entry)) r (now (out .exit)) ⌝ }
 {
     tpmt::signature(Plan::empty(), x).write(src, out)
 }
 
 // Kind 11, TPMT_PUBLIC, written.
 pub fn public_area(x: TpmtPublic, src: &[u8], out: &mut [u8]) -> Measure
-    ensures { λ r. ⌜ Writes publicArea (publicParts x) (now (src .entry)) (now (out .entry)) r (now (out .exit)) ⌝ }
+    ensures { λ r. ⌜ Writes tpmtPublic (tpmtPublicParts x) (now (src .entry)) (now (out .entry)) r (now (out .exit)) ⌝ }
 {
     tpmt::public_area(Plan::empty(), x).write(src, out)
 }
 
 // Kind 12, TPMT_SENSITIVE, written.
 pub fn sensitive_area(x: TpmtSensitive, src: &[u8], out: &mut [u8]) -> Measure
-    ensures { λ r. ⌜ Writes sensitive (sensitiveParts x) (now (src .entry)) (now (out .entry)) r (now (out .exit)) ⌝ }
+    ensures { λ r. ⌜ Writes tpmtSensitive (tpmtSensitiveParts x) (now (src .entry)) (now (out .entry)) r (now (out .exit)) ⌝ }
 {
     tpmt::sensitive_area(Plan::empty(), x).write(src, out)
 }
 
 // Kind 13, TPMS_ATTEST, written.
 pub fn attestation(x: TpmsAttest, src: &[u8], out: &mut [u8]) -> Measure
-    ensures { λ r. ⌜ Writes attest (attestParts x) (now (src .entry)) (now (out .entry)) r (now (out .exit)) ⌝ }
+    ensures { λ r. ⌜ Writes tpmsAttest (tpmsAttestParts x) (now (src .entry)) (now (out .entry)) r (now (out .exit)) ⌝ }
 {
     attestation::attest(Plan::empty(), x).write(src, out)
 }
 
 // Kind 14, TPML_PCR_SELECTION, written.
 pub fn pcr_selections(x: TpmlPcrSelection, src: &[u8], out: &mut [u8]) -> Measure
-    ensures { λ r. ⌜ Writes pcrSelections (pcrSelectionsParts x) (now (src .entry)) (now (out .entry)) r (now (out .exit)) ⌝ }
+    ensures { λ r. ⌜ Writes tpmlPcrSelection (tpmlPcrSelectionParts x) (now (src .entry)) (now (out .entry)) r (now (out .exit)) ⌝ }
 {
     list::pcr_selections(Plan::empty(), x).write(src, out)
 }

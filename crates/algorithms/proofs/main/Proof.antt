@@ -26,26 +26,6 @@ loop-less c = omega arith
 loop-again : tie.Need-loop-again Inv-loop μ-loop
 loop-again c = (omega (arith, c .tried .ensures, c .before .before .loop .inv .0), omega arith)
 
-slice-aggregate-write-line : tie.Need-slice-aggregate-write-line Inv-loop μ-loop
-slice-aggregate-write-line c = search needs
-
-write-line-requires : tie.Need-write-line-requires Inv-loop μ-loop
-write-line-requires c κs = search needs
-
-returns : tie.Need-returns Inv-loop μ-loop
-returns c = search needs
-
 pub main-spec : {M : Type 1} → statement M
-main-spec =
-    tie.close
-    (tie.spec
-    Inv-loop
-    μ-loop
-    loop-holds
-    tried-requires
-    add-code
-    loop-less
-    loop-again
-    slice-aggregate-write-line
-    write-line-requires
-    returns)
+main-spec = tie.close (tie.spec
+    Inv-loop μ-loop loop-holds tried-requires add-code loop-less loop-again (search needs) (search needs) (λ c. search needs))

@@ -13,9 +13,6 @@ abbrev μ-loop : tie.MeasureT-loop
 loop-holds : tie.Need-loop-holds Inv-loop μ-loop
 loop-holds c = tt
 
-answer-next-requires : tie.Need-answer-next-requires Inv-loop μ-loop
-answer-next-requires c κs = search needs
-
 sub-turns : tie.Need-sub-turns Inv-loop μ-loop
 sub-turns c = omega arith
 
@@ -25,22 +22,6 @@ loop-less c = omega arith
 loop-again : tie.Need-loop-again Inv-loop μ-loop
 loop-again c = tt
 
-returns : tie.Need-returns Inv-loop μ-loop
-returns c = search needs
-
-returns-2 : tie.Need-returns-2 Inv-loop μ-loop
-returns-2 c = search needs
-
 pub main-spec : {M : Type 1} → statement M
-main-spec =
-    tie.close
-    (tie.spec
-    Inv-loop
-    μ-loop
-    loop-holds
-    answer-next-requires
-    sub-turns
-    loop-less
-    loop-again
-    returns
-    returns-2)
+main-spec = tie.close (tie.spec
+    Inv-loop μ-loop loop-holds (search needs) sub-turns loop-less loop-again (λ c. search needs) (λ c. search needs))

@@ -2,45 +2,18 @@
 use borrow.Author.Needs.{needs}
 use native.Mathlib.Omega.{arith}
 use Rattle.wire.proofs.Rest.{told}
-use Rattle.attest.specs.Answers.{attestAnswer}
+use Rattle.attest.specs.Answers.{tpmsAttestAnswer}
 use Rattle.by_kind.proofs.Answered.{found-planned, none-planned}
 use Rattle.by_kind.proofs.kind.attestation.Statement.{statement}
 use Rattle.by_kind.proofs.kind.attestation.Tie as tie
 
-unmarshal-requires : tie.Need-unmarshal-requires
-unmarshal-requires c κs = search needs
-
-enum-known-x : tie.Need-enum-known-x
-enum-known-x c = search needs
-
-empty-requires : tie.Need-empty-requires
-empty-requires c κs = search needs
-
-attest-requires : tie.Need-attest-requires
-attest-requires c κs = search needs
-
-enum-known-f : tie.Need-enum-known-f
-enum-known-f c = search needs
-
-no-requires : tie.Need-no-requires
-no-requires c κs = search needs
-
 returns : tie.Need-returns
 returns c =
-    found-planned (told attestAnswer (c .before .before .before .x .given .1) (c .before .before .before .before .before .unmarshal .ensures)) (c .before .empty .ensures) (c .attest .ensures) (omega arith)
+    found-planned (told tpmsAttestAnswer (c .before .before .before .x .given .1) (c .before .before .before .before .before .unmarshal .ensures)) (c .before .empty .ensures) (c .attest .ensures) (omega arith)
 
 returns-2 : tie.Need-returns-2
-returns-2 c = none-planned (told attestAnswer (c .before .before .f .given .1) (c .before .before .before .before .unmarshal .ensures)) (c .no .ensures)
+returns-2 c = none-planned (told tpmsAttestAnswer (c .before .before .f .given .1) (c .before .before .before .before .unmarshal .ensures)) (c .no .ensures)
 
 pub attestation-spec : {M : Type 1} → statement M
-attestation-spec =
-    tie.close
-    (tie.spec
-    unmarshal-requires
-    enum-known-x
-    empty-requires
-    attest-requires
-    enum-known-f
-    no-requires
-    returns
-    returns-2)
+attestation-spec = tie.close (tie.spec
+    (search needs) (search needs) (search needs) (search needs) (search needs) (search needs) returns returns-2)

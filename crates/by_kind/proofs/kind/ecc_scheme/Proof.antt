@@ -2,45 +2,18 @@
 use borrow.Author.Needs.{needs}
 use native.Mathlib.Omega.{arith}
 use Rattle.wire.proofs.Rest.{told}
-use Rattle.schemes.specs.Answers.{eccSchemeAnswer}
+use Rattle.schemes.specs.Answers.{tpmtEccSchemeAnswer}
 use Rattle.by_kind.proofs.Answered.{found-planned, none-planned}
 use Rattle.by_kind.proofs.kind.ecc_scheme.Statement.{statement}
 use Rattle.by_kind.proofs.kind.ecc_scheme.Tie as tie
 
-unmarshal-requires : tie.Need-unmarshal-requires
-unmarshal-requires c κs = search needs
-
-enum-known-x : tie.Need-enum-known-x
-enum-known-x c = search needs
-
-empty-requires : tie.Need-empty-requires
-empty-requires c κs = search needs
-
-ecc-scheme-requires : tie.Need-ecc-scheme-requires
-ecc-scheme-requires c κs = search needs
-
-enum-known-f : tie.Need-enum-known-f
-enum-known-f c = search needs
-
-no-requires : tie.Need-no-requires
-no-requires c κs = search needs
-
 returns : tie.Need-returns
 returns c =
-    found-planned (told eccSchemeAnswer (c .before .before .before .x .given .1) (c .before .before .before .before .before .unmarshal .ensures)) (c .before .empty .ensures) (c .ecc-scheme .ensures) (omega arith)
+    found-planned (told tpmtEccSchemeAnswer (c .before .before .before .x .given .1) (c .before .before .before .before .before .unmarshal .ensures)) (c .before .empty .ensures) (c .ecc-scheme .ensures) (omega arith)
 
 returns-2 : tie.Need-returns-2
-returns-2 c = none-planned (told eccSchemeAnswer (c .before .before .f .given .1) (c .before .before .before .before .unmarshal .ensures)) (c .no .ensures)
+returns-2 c = none-planned (told tpmtEccSchemeAnswer (c .before .before .f .given .1) (c .before .before .before .before .unmarshal .ensures)) (c .no .ensures)
 
 pub ecc-scheme-spec : {M : Type 1} → statement M
-ecc-scheme-spec =
-    tie.close
-    (tie.spec
-    unmarshal-requires
-    enum-known-x
-    empty-requires
-    ecc-scheme-requires
-    enum-known-f
-    no-requires
-    returns
-    returns-2)
+ecc-scheme-spec = tie.close (tie.spec
+    (search needs) (search needs) (search needs) (search needs) (search needs) (search needs) returns returns-2)

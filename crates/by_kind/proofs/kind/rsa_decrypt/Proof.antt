@@ -2,45 +2,18 @@
 use borrow.Author.Needs.{needs}
 use native.Mathlib.Omega.{arith}
 use Rattle.wire.proofs.Rest.{told}
-use Rattle.schemes.specs.Answers.{rsaDecryptAnswer}
+use Rattle.schemes.specs.Answers.{tpmtRsaDecryptAnswer}
 use Rattle.by_kind.proofs.Answered.{found-planned, none-planned}
 use Rattle.by_kind.proofs.kind.rsa_decrypt.Statement.{statement}
 use Rattle.by_kind.proofs.kind.rsa_decrypt.Tie as tie
 
-unmarshal-requires : tie.Need-unmarshal-requires
-unmarshal-requires c κs = search needs
-
-enum-known-x : tie.Need-enum-known-x
-enum-known-x c = search needs
-
-empty-requires : tie.Need-empty-requires
-empty-requires c κs = search needs
-
-rsa-decrypt-requires : tie.Need-rsa-decrypt-requires
-rsa-decrypt-requires c κs = search needs
-
-enum-known-f : tie.Need-enum-known-f
-enum-known-f c = search needs
-
-no-requires : tie.Need-no-requires
-no-requires c κs = search needs
-
 returns : tie.Need-returns
 returns c =
-    found-planned (told rsaDecryptAnswer (c .before .before .before .x .given .1) (c .before .before .before .before .before .unmarshal .ensures)) (c .before .empty .ensures) (c .rsa-decrypt .ensures) (omega arith)
+    found-planned (told tpmtRsaDecryptAnswer (c .before .before .before .x .given .1) (c .before .before .before .before .before .unmarshal .ensures)) (c .before .empty .ensures) (c .rsa-decrypt .ensures) (omega arith)
 
 returns-2 : tie.Need-returns-2
-returns-2 c = none-planned (told rsaDecryptAnswer (c .before .before .f .given .1) (c .before .before .before .before .unmarshal .ensures)) (c .no .ensures)
+returns-2 c = none-planned (told tpmtRsaDecryptAnswer (c .before .before .f .given .1) (c .before .before .before .before .unmarshal .ensures)) (c .no .ensures)
 
 pub rsa-decrypt-spec : {M : Type 1} → statement M
-rsa-decrypt-spec =
-    tie.close
-    (tie.spec
-    unmarshal-requires
-    enum-known-x
-    empty-requires
-    rsa-decrypt-requires
-    enum-known-f
-    no-requires
-    returns
-    returns-2)
+rsa-decrypt-spec = tie.close (tie.spec
+    (search needs) (search needs) (search needs) (search needs) (search needs) (search needs) returns returns-2)

@@ -4,17 +4,8 @@ use Rattle.fields.proofs.Found.{field-found}
 use Rattle.fields.proofs.field.kdf_scheme.Statement.{statement}
 use Rattle.fields.proofs.field.kdf_scheme.Tie as tie
 
-empty-requires : tie.Need-empty-requires
-empty-requires c κs = search needs
-
-kdf-scheme-requires : tie.Need-kdf-scheme-requires
-kdf-scheme-requires c κs = search needs
-
-field-requires : tie.Need-field-requires
-field-requires c κs = search needs
-
 returns : tie.Need-returns
 returns c = field-found _ _ (c .before .before .empty .ensures .0) (c .before .kdf-scheme .ensures) (c .field .ensures)
 
 pub kdf-scheme-spec : {M : Type 1} → statement M
-kdf-scheme-spec = tie.close (tie.spec empty-requires kdf-scheme-requires field-requires returns)
+kdf-scheme-spec = tie.close (tie.spec (search needs) (search needs) (search needs) returns)

@@ -4,17 +4,8 @@ use Rattle.fields.proofs.Found.{field-found}
 use Rattle.fields.proofs.field.rsa_decrypt.Statement.{statement}
 use Rattle.fields.proofs.field.rsa_decrypt.Tie as tie
 
-empty-requires : tie.Need-empty-requires
-empty-requires c κs = search needs
-
-rsa-decrypt-requires : tie.Need-rsa-decrypt-requires
-rsa-decrypt-requires c κs = search needs
-
-field-requires : tie.Need-field-requires
-field-requires c κs = search needs
-
 returns : tie.Need-returns
 returns c = field-found _ _ (c .before .before .empty .ensures .0) (c .before .rsa-decrypt .ensures) (c .field .ensures)
 
 pub rsa-decrypt-spec : {M : Type 1} → statement M
-rsa-decrypt-spec = tie.close (tie.spec empty-requires rsa-decrypt-requires field-requires returns)
+rsa-decrypt-spec = tie.close (tie.spec (search needs) (search needs) (search needs) returns)

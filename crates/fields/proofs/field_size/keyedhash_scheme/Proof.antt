@@ -4,18 +4,8 @@ use Rattle.fields.proofs.Found.{field-measured}
 use Rattle.fields.proofs.field_size.keyedhash_scheme.Statement.{statement}
 use Rattle.fields.proofs.field_size.keyedhash_scheme.Tie as tie
 
-empty-requires : tie.Need-empty-requires
-empty-requires c κs = search needs
-
-keyedhash-scheme-requires : tie.Need-keyedhash-scheme-requires
-keyedhash-scheme-requires c κs = search needs
-
-field-size-requires : tie.Need-field-size-requires
-field-size-requires c κs = search needs
-
 returns : tie.Need-returns
 returns c = field-measured _ _ (c .before .before .empty .ensures .0) (c .before .keyedhash-scheme .ensures) (c .field-size .ensures)
 
 pub keyedhash-scheme-spec : {M : Type 1} → statement M
-keyedhash-scheme-spec =
-    tie.close (tie.spec empty-requires keyedhash-scheme-requires field-size-requires returns)
+keyedhash-scheme-spec = tie.close (tie.spec (search needs) (search needs) (search needs) returns)

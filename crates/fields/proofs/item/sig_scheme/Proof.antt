@@ -4,17 +4,8 @@ use Rattle.fields.proofs.Found.{item-found}
 use Rattle.fields.proofs.item.sig_scheme.Statement.{statement}
 use Rattle.fields.proofs.item.sig_scheme.Tie as tie
 
-empty-requires : tie.Need-empty-requires
-empty-requires c κs = search needs
-
-sig-scheme-requires : tie.Need-sig-scheme-requires
-sig-scheme-requires c κs = search needs
-
-item-requires : tie.Need-item-requires
-item-requires c κs = search needs
-
 returns : tie.Need-returns
 returns c = item-found _ _ (c .before .before .empty .ensures .0) (c .before .sig-scheme .ensures) (c .item .ensures)
 
 pub sig-scheme-spec : {M : Type 1} → statement M
-sig-scheme-spec = tie.close (tie.spec empty-requires sig-scheme-requires item-requires returns)
+sig-scheme-spec = tie.close (tie.spec (search needs) (search needs) (search needs) returns)

@@ -4,17 +4,8 @@ use Rattle.fields.proofs.Found.{item-found}
 use Rattle.fields.proofs.item.signature.Statement.{statement}
 use Rattle.fields.proofs.item.signature.Tie as tie
 
-empty-requires : tie.Need-empty-requires
-empty-requires c κs = search needs
-
-signature-requires : tie.Need-signature-requires
-signature-requires c κs = search needs
-
-item-requires : tie.Need-item-requires
-item-requires c κs = search needs
-
 returns : tie.Need-returns
 returns c = item-found _ _ (c .before .before .empty .ensures .0) (c .before .signature .ensures) (c .item .ensures)
 
 pub signature-spec : {M : Type 1} → statement M
-signature-spec = tie.close (tie.spec empty-requires signature-requires item-requires returns)
+signature-spec = tie.close (tie.spec (search needs) (search needs) (search needs) returns)

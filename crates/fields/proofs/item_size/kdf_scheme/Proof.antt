@@ -4,17 +4,8 @@ use Rattle.fields.proofs.Found.{item-measured}
 use Rattle.fields.proofs.item_size.kdf_scheme.Statement.{statement}
 use Rattle.fields.proofs.item_size.kdf_scheme.Tie as tie
 
-empty-requires : tie.Need-empty-requires
-empty-requires c κs = search needs
-
-kdf-scheme-requires : tie.Need-kdf-scheme-requires
-kdf-scheme-requires c κs = search needs
-
-item-size-requires : tie.Need-item-size-requires
-item-size-requires c κs = search needs
-
 returns : tie.Need-returns
 returns c = item-measured _ _ (c .before .before .empty .ensures .0) (c .before .kdf-scheme .ensures) (c .item-size .ensures)
 
 pub kdf-scheme-spec : {M : Type 1} → statement M
-kdf-scheme-spec = tie.close (tie.spec empty-requires kdf-scheme-requires item-size-requires returns)
+kdf-scheme-spec = tie.close (tie.spec (search needs) (search needs) (search needs) returns)

@@ -4,18 +4,8 @@ use Rattle.fields.proofs.Found.{item-measured}
 use Rattle.fields.proofs.item_size.rsa_decrypt.Statement.{statement}
 use Rattle.fields.proofs.item_size.rsa_decrypt.Tie as tie
 
-empty-requires : tie.Need-empty-requires
-empty-requires c κs = search needs
-
-rsa-decrypt-requires : tie.Need-rsa-decrypt-requires
-rsa-decrypt-requires c κs = search needs
-
-item-size-requires : tie.Need-item-size-requires
-item-size-requires c κs = search needs
-
 returns : tie.Need-returns
 returns c = item-measured _ _ (c .before .before .empty .ensures .0) (c .before .rsa-decrypt .ensures) (c .item-size .ensures)
 
 pub rsa-decrypt-spec : {M : Type 1} → statement M
-rsa-decrypt-spec =
-    tie.close (tie.spec empty-requires rsa-decrypt-requires item-size-requires returns)
+rsa-decrypt-spec = tie.close (tie.spec (search needs) (search needs) (search needs) returns)

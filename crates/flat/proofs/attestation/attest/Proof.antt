@@ -4,34 +4,13 @@ use native.Mathlib.Omega.{arith}
 use Rattle.wire.specs.declared.width.Width.the-variants.{Two, Four, Eight}
 use Rattle.wire.specs.Layout.{free}
 use Rattle.kinds.specs.Codes.{attestation, magic}
-use Rattle.kinds.specs.Kinds.{attest}
+use Rattle.kinds.specs.Kinds.{tpmsAttest}
 use Rattle.plans.proofs.Laws.{adds-then, adds-number, adds-buffer}
 use Rattle.flat.proofs.attestation.attest.Statement.{statement}
 use Rattle.flat.proofs.attestation.attest.Tie as tie
 
-magic-requires : tie.Need-magic-requires
-magic-requires c κs = search needs
-
-attestation-requires : tie.Need-attestation-requires
-attestation-requires c κs = search needs
-
-buffer-requires : tie.Need-buffer-requires
-buffer-requires c κs = search needs
-
-buffer-requires-2 : tie.Need-buffer-requires-2
-buffer-requires-2 c κs = search needs
-
-clock-info-requires : tie.Need-clock-info-requires
-clock-info-requires c κs = search needs
-
-uint64-requires : tie.Need-uint64-requires
-uint64-requires c κs = search needs
-
-attest-requires : tie.Need-attest-requires
-attest-requires c κs = search needs
-
 returns : tie.Need-returns
-unfolding attest
+unfolding tpmsAttest
 returns c =
     adds-number Four magic _ _ (c .before .before .before .before .before .before .magic .ensures)
     (adds-number Two attestation _ _ (c .before .before .before .before .before .attestation .ensures)
@@ -41,14 +20,5 @@ returns c =
     (adds-number Eight free _ _ (c .before .uint64 .ensures) (c .attest .ensures))))))
 
 pub attest-spec : {M : Type 1} → statement M
-attest-spec =
-    tie.close
-    (tie.spec
-    magic-requires
-    attestation-requires
-    buffer-requires
-    buffer-requires-2
-    clock-info-requires
-    uint64-requires
-    attest-requires
-    returns)
+attest-spec = tie.close (tie.spec
+    (search needs) (search needs) (search needs) (search needs) (search needs) (search needs) (search needs) returns)

@@ -2,31 +2,17 @@
 use borrow.Author.Needs.{needs}
 use Rattle.wire.specs.declared.width.Width.the-variants.{Two}
 use Rattle.kinds.specs.Codes.{curve}
-use Rattle.kinds.specs.Kinds.{eccParms}
+use Rattle.kinds.specs.Kinds.{tpmsEccParms}
 use Rattle.plans.proofs.Laws.{adds-then, adds-number}
 use Rattle.flat.proofs.tpms.ecc_parms.Statement.{statement}
 use Rattle.flat.proofs.tpms.ecc_parms.Tie as tie
 
-sym-def-requires : tie.Need-sym-def-requires
-sym-def-requires c κs = search needs
-
-ecc-scheme-requires : tie.Need-ecc-scheme-requires
-ecc-scheme-requires c κs = search needs
-
-curve-requires : tie.Need-curve-requires
-curve-requires c κs = search needs
-
-kdf-scheme-requires : tie.Need-kdf-scheme-requires
-kdf-scheme-requires c κs = search needs
-
 returns : tie.Need-returns
-unfolding eccParms
+unfolding tpmsEccParms
 returns c =
     adds-then (c .before .before .before .sym-def .ensures)
     (adds-then (c .before .before .ecc-scheme .ensures)
     (adds-number Two curve _ _ (c .before .curve .ensures) (c .kdf-scheme .ensures)))
 
 pub ecc-parms-spec : {M : Type 1} → statement M
-ecc-parms-spec =
-    tie.close
-    (tie.spec sym-def-requires ecc-scheme-requires curve-requires kdf-scheme-requires returns)
+ecc-parms-spec = tie.close (tie.spec (search needs) (search needs) (search needs) (search needs) returns)

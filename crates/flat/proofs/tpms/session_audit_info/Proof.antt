@@ -3,20 +3,14 @@ use borrow.Author.Needs.{needs}
 use native.Mathlib.Omega.{arith}
 use Rattle.wire.specs.declared.width.Width.the-variants.{One}
 use Rattle.kinds.specs.Codes.{yesNo}
-use Rattle.kinds.specs.Kinds.{sessionAuditInfo}
+use Rattle.kinds.specs.Kinds.{tpmsSessionAuditInfo}
 use Rattle.plans.proofs.Laws.{adds-number, adds-last-buffer}
 use Rattle.flat.proofs.tpms.session_audit_info.Statement.{statement}
 use Rattle.flat.proofs.tpms.session_audit_info.Tie as tie
 
-yes-no-requires : tie.Need-yes-no-requires
-yes-no-requires c κs = search needs
-
-buffer-requires : tie.Need-buffer-requires
-buffer-requires c κs = search needs
-
 returns : tie.Need-returns
-unfolding sessionAuditInfo
+unfolding tpmsSessionAuditInfo
 returns c = adds-number One yesNo _ _ (c .before .yes-no .ensures) (adds-last-buffer 64 _ (omega arith) (c .buffer .ensures))
 
 pub session-audit-info-spec : {M : Type 1} → statement M
-session-audit-info-spec = tie.close (tie.spec yes-no-requires buffer-requires returns)
+session-audit-info-spec = tie.close (tie.spec (search needs) (search needs) returns)

@@ -2,20 +2,14 @@
 use borrow.Author.Needs.{needs}
 use Rattle.wire.specs.declared.width.Width.the-variants.{Eight}
 use Rattle.wire.specs.Layout.{free}
-use Rattle.kinds.specs.Kinds.{timeAttestInfo}
+use Rattle.kinds.specs.Kinds.{tpmsTimeAttestInfo}
 use Rattle.plans.proofs.Laws.{adds-then, adds-last-number}
 use Rattle.flat.proofs.tpms.time_attest_info.Statement.{statement}
 use Rattle.flat.proofs.tpms.time_attest_info.Tie as tie
 
-time-info-requires : tie.Need-time-info-requires
-time-info-requires c κs = search needs
-
-uint64-requires : tie.Need-uint64-requires
-uint64-requires c κs = search needs
-
 returns : tie.Need-returns
-unfolding timeAttestInfo
+unfolding tpmsTimeAttestInfo
 returns c = adds-then (c .before .time-info .ensures) (adds-last-number Eight free _ (c .uint64 .ensures))
 
 pub time-attest-info-spec : {M : Type 1} → statement M
-time-attest-info-spec = tie.close (tie.spec time-info-requires uint64-requires returns)
+time-attest-info-spec = tie.close (tie.spec (search needs) (search needs) returns)

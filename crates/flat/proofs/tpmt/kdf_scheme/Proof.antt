@@ -2,20 +2,14 @@
 use borrow.Author.Needs.{needs}
 use Rattle.wire.specs.declared.width.Width.the-variants.{Two}
 use Rattle.kinds.specs.Codes.{alg}
-use Rattle.kinds.specs.Kinds.{kdfScheme}
+use Rattle.kinds.specs.Kinds.{tpmtKdfScheme}
 use Rattle.plans.proofs.Laws.{adds-number}
 use Rattle.flat.proofs.tpmt.kdf_scheme.Statement.{statement}
 use Rattle.flat.proofs.tpmt.kdf_scheme.Tie as tie
 
-algorithm-requires : tie.Need-algorithm-requires
-algorithm-requires c κs = search needs
-
-kdf-scheme-requires : tie.Need-kdf-scheme-requires
-kdf-scheme-requires c κs = search needs
-
 returns : tie.Need-returns
-unfolding kdfScheme
+unfolding tpmtKdfScheme
 returns c = adds-number Two alg _ _ (c .before .algorithm .ensures) (c .kdf-scheme .ensures)
 
 pub kdf-scheme-spec : {M : Type 1} → statement M
-kdf-scheme-spec = tie.close (tie.spec algorithm-requires kdf-scheme-requires returns)
+kdf-scheme-spec = tie.close (tie.spec (search needs) (search needs) returns)

@@ -4,31 +4,13 @@ use native.Mathlib.Omega.{arith}
 use Rattle.wire.specs.declared.width.Width.the-variants.{Two, Four}
 use Rattle.wire.specs.Layout.{free}
 use Rattle.kinds.specs.Codes.{alg}
-use Rattle.kinds.specs.Kinds.{publicArea}
+use Rattle.kinds.specs.Kinds.{tpmtPublic}
 use Rattle.plans.proofs.Laws.{adds-then, adds-number, adds-buffer}
 use Rattle.flat.proofs.tpmt.public_area.Statement.{statement}
 use Rattle.flat.proofs.tpmt.public_area.Tie as tie
 
-algorithm-requires : tie.Need-algorithm-requires
-algorithm-requires c κs = search needs
-
-algorithm-requires-2 : tie.Need-algorithm-requires-2
-algorithm-requires-2 c κs = search needs
-
-uint32-requires : tie.Need-uint32-requires
-uint32-requires c κs = search needs
-
-buffer-requires : tie.Need-buffer-requires
-buffer-requires c κs = search needs
-
-public-parms-requires : tie.Need-public-parms-requires
-public-parms-requires c κs = search needs
-
-public-id-requires : tie.Need-public-id-requires
-public-id-requires c κs = search needs
-
 returns : tie.Need-returns
-unfolding publicArea
+unfolding tpmtPublic
 returns c =
     adds-number Two alg _ _ (c .before .before .before .before .before .algorithm .ensures)
     (adds-number Two alg _ _ (c .before .before .before .before .algorithm2 .ensures)
@@ -37,13 +19,4 @@ returns c =
     (adds-then (c .before .public-parms .ensures) (c .public-id .ensures)))))
 
 pub public-area-spec : {M : Type 1} → statement M
-public-area-spec =
-    tie.close
-    (tie.spec
-    algorithm-requires
-    algorithm-requires-2
-    uint32-requires
-    buffer-requires
-    public-parms-requires
-    public-id-requires
-    returns)
+public-area-spec = tie.close (tie.spec (search needs) (search needs) (search needs) (search needs) (search needs) (search needs) returns)

@@ -2,20 +2,14 @@
 use borrow.Author.Needs.{needs}
 use Rattle.wire.specs.declared.width.Width.the-variants.{Two}
 use Rattle.kinds.specs.Codes.{alg}
-use Rattle.kinds.specs.Kinds.{publicParms}
+use Rattle.kinds.specs.Kinds.{tpmtPublicParms}
 use Rattle.plans.proofs.Laws.{adds-number}
 use Rattle.flat.proofs.tpmt.public_parms.Statement.{statement}
 use Rattle.flat.proofs.tpmt.public_parms.Tie as tie
 
-algorithm-requires : tie.Need-algorithm-requires
-algorithm-requires c κs = search needs
-
-public-parms-requires : tie.Need-public-parms-requires
-public-parms-requires c κs = search needs
-
 returns : tie.Need-returns
-unfolding publicParms
+unfolding tpmtPublicParms
 returns c = adds-number Two alg _ _ (c .before .algorithm .ensures) (c .public-parms .ensures)
 
 pub public-parms-spec : {M : Type 1} → statement M
-public-parms-spec = tie.close (tie.spec algorithm-requires public-parms-requires returns)
+public-parms-spec = tie.close (tie.spec (search needs) (search needs) returns)

@@ -2,20 +2,14 @@
 use borrow.Author.Needs.{needs}
 use Rattle.wire.specs.declared.width.Width.the-variants.{Two}
 use Rattle.kinds.specs.Codes.{alg}
-use Rattle.kinds.specs.Kinds.{sigScheme}
+use Rattle.kinds.specs.Kinds.{tpmtSigScheme}
 use Rattle.plans.proofs.Laws.{adds-number}
 use Rattle.flat.proofs.tpmt.sig_scheme.Statement.{statement}
 use Rattle.flat.proofs.tpmt.sig_scheme.Tie as tie
 
-algorithm-requires : tie.Need-algorithm-requires
-algorithm-requires c κs = search needs
-
-sig-scheme-requires : tie.Need-sig-scheme-requires
-sig-scheme-requires c κs = search needs
-
 returns : tie.Need-returns
-unfolding sigScheme
+unfolding tpmtSigScheme
 returns c = adds-number Two alg _ _ (c .before .algorithm .ensures) (c .sig-scheme .ensures)
 
 pub sig-scheme-spec : {M : Type 1} → statement M
-sig-scheme-spec = tie.close (tie.spec algorithm-requires sig-scheme-requires returns)
+sig-scheme-spec = tie.close (tie.spec (search needs) (search needs) returns)

@@ -2,20 +2,14 @@
 use borrow.Author.Needs.{needs}
 use Rattle.wire.specs.declared.width.Width.the-variants.{Two}
 use Rattle.kinds.specs.Codes.{alg}
-use Rattle.kinds.specs.Kinds.{signature}
+use Rattle.kinds.specs.Kinds.{tpmtSignature}
 use Rattle.plans.proofs.Laws.{adds-number}
 use Rattle.flat.proofs.tpmt.signature.Statement.{statement}
 use Rattle.flat.proofs.tpmt.signature.Tie as tie
 
-algorithm-requires : tie.Need-algorithm-requires
-algorithm-requires c κs = search needs
-
-signature-requires : tie.Need-signature-requires
-signature-requires c κs = search needs
-
 returns : tie.Need-returns
-unfolding signature
+unfolding tpmtSignature
 returns c = adds-number Two alg _ _ (c .before .algorithm .ensures) (c .signature .ensures)
 
 pub signature-spec : {M : Type 1} → statement M
-signature-spec = tie.close (tie.spec algorithm-requires signature-requires returns)
+signature-spec = tie.close (tie.spec (search needs) (search needs) returns)

@@ -2,69 +2,34 @@
 use borrow.Author.Needs.{needs}
 use mathlib.Core.Path.{refl, ap}
 use native.Mathlib.Omega.{arith}
-use Rattle.kinds.specs.Kinds.{keyedhashBody, keyedhashBy}
-use Rattle.schemes.specs.Parts.{keyedhashParts}
+use Rattle.kinds.specs.Kinds.{tpmuKeyedhashSchemeBody, tpmuKeyedhashScheme}
+use Rattle.schemes.specs.Parts.{tpmuKeyedhashSchemeParts}
 use Rattle.plans.proofs.Laws.{adds-more}
 use Rattle.flat.proofs.Shapes.{holds, holds-none}
 use Rattle.flat.proofs.tpmu.keyedhash_scheme.Statement.{statement}
 use Rattle.flat.proofs.tpmu.keyedhash_scheme.Tie as tie
 
-keyedhash-arm-requires : tie.Need-keyedhash-arm-requires
-keyedhash-arm-requires c κs = search needs
-
-matches-tag-requires : tie.Need-matches-tag-requires
-matches-tag-requires c κs = search needs
-
-due-requires : tie.Need-due-requires
-due-requires c κs = search needs
-
-enum-known-x : tie.Need-enum-known-x
-enum-known-x c = search needs
-
-scheme-hash-requires : tie.Need-scheme-hash-requires
-scheme-hash-requires c κs = search needs
-
-enum-known-x-2 : tie.Need-enum-known-x-2
-enum-known-x-2 c = search needs
-
-scheme-xor-requires : tie.Need-scheme-xor-requires
-scheme-xor-requires c κs = search needs
-
-enum-told : tie.Need-enum-told
-enum-told c = search needs
-
 returns : tie.Need-returns
-unfolding keyedhashBy
+unfolding tpmuKeyedhashScheme
 returns c =
     adds-more (omega arith)
     (holds _ (c .before .before .before .before .before .before .keyedhash-arm .ensures) (c .before .before .before .before .before .matches-tag .ensures)
-    (c .before .before .before .before .due .ensures .0) keyedhashBody (ap keyedhashParts (c .before .before .x .given .1)) refl (c .scheme-hash .ensures))
+    (c .before .before .before .before .due .ensures .0) tpmuKeyedhashSchemeBody (ap tpmuKeyedhashSchemeParts (c .before .before .x .given .1)) refl (c .scheme-hash .ensures))
 
 returns-2 : tie.Need-returns-2
-unfolding keyedhashBy
+unfolding tpmuKeyedhashScheme
 returns-2 c =
     holds _ (c .before .before .before .before .before .before .keyedhash-arm .ensures) (c .before .before .before .before .before .matches-tag .ensures)
-    (c .before .before .before .before .due .ensures .0) keyedhashBody (ap keyedhashParts (c .before .before .x2 .given .1)) refl (c .scheme-xor .ensures)
+    (c .before .before .before .before .due .ensures .0) tpmuKeyedhashSchemeBody (ap tpmuKeyedhashSchemeParts (c .before .before .x2 .given .1)) refl (c .scheme-xor .ensures)
 
 returns-3 : tie.Need-returns-3
-unfolding keyedhashBy
+unfolding tpmuKeyedhashScheme
 returns-3 c =
     adds-more (omega arith)
-    (holds-none _ (c .before .before .before .before .keyedhash-arm .ensures) (c .before .before .before .matches-tag .ensures) (c .before .before .due .ensures .0) keyedhashBody
-    (ap keyedhashParts (c .enum-told .given .1)) refl)
+    (holds-none _ (c .before .before .before .before .keyedhash-arm .ensures) (c .before .before .before .matches-tag .ensures) (c .before .before .due .ensures .0) tpmuKeyedhashSchemeBody
+    (ap tpmuKeyedhashSchemeParts (c .enum-told .given .1)) refl)
 
 pub keyedhash-scheme-spec : {M : Type 1} → statement M
-keyedhash-scheme-spec =
-    tie.close
-    (tie.spec
-    keyedhash-arm-requires
-    matches-tag-requires
-    due-requires
-    enum-known-x
-    scheme-hash-requires
-    enum-known-x-2
-    scheme-xor-requires
-    enum-told
-    returns
-    returns-2
-    returns-3)
+keyedhash-scheme-spec = tie.close (tie.spec
+    (search needs) (search needs) (search needs) (search needs) (search needs) (search needs) (search needs) (search needs) returns
+    returns-2 returns-3)

@@ -5,98 +5,45 @@ use native.Mathlib.Omega.{arith}
 use Rattle.wire.specs.declared.width.Width.the-variants.{Two}
 use Rattle.wire.specs.Layout.{free}
 use Rattle.kinds.specs.Codes.{alg}
-use Rattle.kinds.specs.Kinds.{keyBitsBody, keyBitsBy}
-use Rattle.schemes.specs.Parts.{keyBitsParts}
+use Rattle.kinds.specs.Kinds.{tpmuSymKeyBitsBody, tpmuSymKeyBits}
+use Rattle.schemes.specs.Parts.{tpmuSymKeyBitsParts}
 use Rattle.plans.proofs.Laws.{adds-last-number, adds-more}
 use Rattle.flat.proofs.Shapes.{holds, holds-none}
 use Rattle.flat.proofs.tpmu.sym_key_bits.Statement.{statement}
 use Rattle.flat.proofs.tpmu.sym_key_bits.Tie as tie
 
-cipher-arm-requires : tie.Need-cipher-arm-requires
-cipher-arm-requires c κs = search needs
-
-matches-tag-requires : tie.Need-matches-tag-requires
-matches-tag-requires c κs = search needs
-
-due-requires : tie.Need-due-requires
-due-requires c κs = search needs
-
-enum-known-x : tie.Need-enum-known-x
-enum-known-x c = search needs
-
-uint16-requires : tie.Need-uint16-requires
-uint16-requires c κs = search needs
-
-enum-known-x-2 : tie.Need-enum-known-x-2
-enum-known-x-2 c = search needs
-
-uint16-requires-2 : tie.Need-uint16-requires-2
-uint16-requires-2 c κs = search needs
-
-enum-known-x-3 : tie.Need-enum-known-x-3
-enum-known-x-3 c = search needs
-
-uint16-requires-3 : tie.Need-uint16-requires-3
-uint16-requires-3 c κs = search needs
-
-enum-known-x-4 : tie.Need-enum-known-x-4
-enum-known-x-4 c = search needs
-
-algorithm-requires : tie.Need-algorithm-requires
-algorithm-requires c κs = search needs
-
-enum-told : tie.Need-enum-told
-enum-told c = search needs
-
 returns : tie.Need-returns
-unfolding keyBitsBy
+unfolding tpmuSymKeyBits
 returns c =
     holds _ (c .before .before .before .before .before .before .cipher-arm .ensures) (c .before .before .before .before .before .matches-tag .ensures)
-    (c .before .before .before .before .due .ensures .0) keyBitsBody (ap keyBitsParts (c .before .before .x .given .1)) refl (adds-last-number Two free _ (c .uint16 .ensures))
+    (c .before .before .before .before .due .ensures .0) tpmuSymKeyBitsBody (ap tpmuSymKeyBitsParts (c .before .before .x .given .1)) refl (adds-last-number Two free _ (c .uint16 .ensures))
 
 returns-2 : tie.Need-returns-2
-unfolding keyBitsBy
+unfolding tpmuSymKeyBits
 returns-2 c =
     holds _ (c .before .before .before .before .before .before .cipher-arm .ensures) (c .before .before .before .before .before .matches-tag .ensures)
-    (c .before .before .before .before .due .ensures .0) keyBitsBody (ap keyBitsParts (c .before .before .x2 .given .1)) refl (adds-last-number Two free _ (c .uint162 .ensures))
+    (c .before .before .before .before .due .ensures .0) tpmuSymKeyBitsBody (ap tpmuSymKeyBitsParts (c .before .before .x2 .given .1)) refl (adds-last-number Two free _ (c .uint162 .ensures))
 
 returns-3 : tie.Need-returns-3
-unfolding keyBitsBy
+unfolding tpmuSymKeyBits
 returns-3 c =
     holds _ (c .before .before .before .before .before .before .cipher-arm .ensures) (c .before .before .before .before .before .matches-tag .ensures)
-    (c .before .before .before .before .due .ensures .0) keyBitsBody (ap keyBitsParts (c .before .before .x3 .given .1)) refl (adds-last-number Two free _ (c .uint163 .ensures))
+    (c .before .before .before .before .due .ensures .0) tpmuSymKeyBitsBody (ap tpmuSymKeyBitsParts (c .before .before .x3 .given .1)) refl (adds-last-number Two free _ (c .uint163 .ensures))
 
 returns-4 : tie.Need-returns-4
-unfolding keyBitsBy
+unfolding tpmuSymKeyBits
 returns-4 c =
     holds _ (c .before .before .before .before .before .before .cipher-arm .ensures) (c .before .before .before .before .before .matches-tag .ensures)
-    (c .before .before .before .before .due .ensures .0) keyBitsBody (ap keyBitsParts (c .before .before .x4 .given .1)) refl (adds-last-number Two alg _ (c .algorithm .ensures))
+    (c .before .before .before .before .due .ensures .0) tpmuSymKeyBitsBody (ap tpmuSymKeyBitsParts (c .before .before .x4 .given .1)) refl (adds-last-number Two alg _ (c .algorithm .ensures))
 
 returns-5 : tie.Need-returns-5
-unfolding keyBitsBy
+unfolding tpmuSymKeyBits
 returns-5 c =
     adds-more (omega arith)
-    (holds-none _ (c .before .before .before .before .cipher-arm .ensures) (c .before .before .before .matches-tag .ensures) (c .before .before .due .ensures .0) keyBitsBody
-    (ap keyBitsParts (c .enum-told .given .1)) refl)
+    (holds-none _ (c .before .before .before .before .cipher-arm .ensures) (c .before .before .before .matches-tag .ensures) (c .before .before .due .ensures .0) tpmuSymKeyBitsBody
+    (ap tpmuSymKeyBitsParts (c .enum-told .given .1)) refl)
 
 pub sym-key-bits-spec : {M : Type 1} → statement M
-sym-key-bits-spec =
-    tie.close
-    (tie.spec
-    cipher-arm-requires
-    matches-tag-requires
-    due-requires
-    enum-known-x
-    uint16-requires
-    enum-known-x-2
-    uint16-requires-2
-    enum-known-x-3
-    uint16-requires-3
-    enum-known-x-4
-    algorithm-requires
-    enum-told
-    returns
-    returns-2
-    returns-3
-    returns-4
-    returns-5)
+sym-key-bits-spec = tie.close (tie.spec
+    (search needs) (search needs) (search needs) (search needs) (search needs) (search needs) (search needs) (search needs) (search needs)
+    (search needs) (search needs) (search needs) returns returns-2 returns-3 returns-4 returns-5)

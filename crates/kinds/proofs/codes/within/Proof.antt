@@ -1,5 +1,4 @@
 -- Both tests are the definition's. Assumes nothing.
-use borrow.Author.Needs.{needs}
 use borrow.Author.Tests.{le-leb, lt-leb}
 use Rattle.kinds.proofs.codes.within.Statement.{statement}
 use Rattle.kinds.proofs.codes.within.Tie as tie

@@ -11,21 +11,6 @@ use Rattle.kinds.proofs.Values.{magic-allowed, magic-not}
 use Rattle.kinds.proofs.uint.magic_number.Statement.{statement}
 use Rattle.kinds.proofs.uint.magic_number.Tie as tie
 
-number-requires : tie.Need-number-requires
-number-requires c κs = search needs
-
-enum-known-n : tie.Need-enum-known-n
-enum-known-n c = search needs
-
-cast-t11 : tie.Need-cast-t11
-cast-t11 c = search needs
-
-bad-value-requires : tie.Need-bad-value-requires
-bad-value-requires c κs = search needs
-
-enum-known-f : tie.Need-enum-known-f
-enum-known-f c = search needs
-
 returns : tie.Need-returns
 returns c = judged-found 4 magic _ _ (told numberAnswer (c .before .before .n .given .1) (c .before .before .before .before .number .ensures)) (magic-allowed _ (c .if1 .taken))
 
@@ -36,14 +21,5 @@ returns-3 : tie.Need-returns-3
 returns-3 c = judged-refused 4 magic _ _ (told numberAnswer (c .before .f .given .1) (c .before .before .before .number .ensures))
 
 pub magic-number-spec : {M : Type 1} → statement M
-magic-number-spec =
-    tie.close
-    (tie.spec
-    number-requires
-    enum-known-n
-    cast-t11
-    bad-value-requires
-    enum-known-f
-    returns
-    returns-2
-    returns-3)
+magic-number-spec = tie.close (tie.spec
+    (search needs) (search needs) (search needs) (search needs) (search needs) returns returns-2 returns-3)

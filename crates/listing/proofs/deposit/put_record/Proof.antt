@@ -8,67 +8,22 @@ use Rattle.listing.proofs.Deposits.{judged-unread, judged-refused, refu
 use Rattle.listing.proofs.deposit.put_record.Statement.{statement}
 use Rattle.listing.proofs.deposit.put_record.Tie as tie
 
-refused-unread-requires : tie.Need-refused-unread-requires
-refused-unread-requires c κs = search needs
-
-put-refusal-line-requires : tie.Need-put-refusal-line-requires
-put-refusal-line-requires c κs = search needs
-
-same-length : tie.Need-same-length
-same-length c = search needs
-
 returns : tie.Need-returns
 returns c = refusal-listed _ _ (judged-unread _ _ (omega arith) ∙ ap refused (sym (c .before .before .before .before .refused-unread .ensures))) (c .before .before .put-refusal-line .ensures)
-
-plan-of-requires : tie.Need-plan-of-requires
-plan-of-requires c κs = search needs
-
-enum-known-end : tie.Need-enum-known-end
-enum-known-end c = search needs
 
 sub-tail : tie.Need-sub-tail
 sub-tail c = read-as _ _ (bytes-of (c .before .before .before .before .before .before .before .before .args .bytes .now) (λ i. (c .before .before .before .before .before .before .before .shared-slice-known .given i) .fits)) (omega arith) (c .before .before .before .before .plan-of .ensures) (c .before .end .given .1) .inside
 
-put-read-line-requires : tie.Need-put-read-line-requires
-put-read-line-requires c κs = search needs
-
 put-plan-lines-requires : tie.Need-put-plan-lines-requires
 put-plan-lines-requires c κs = let read = read-as _ _ (bytes-of (c .before .before .before .before .before .before .before .before .before .before .before .before .before .args .bytes .now) (λ i. (c .before .before .before .before .before .before .before .before .before .before .before .before .shared-slice-known .given i) .fits)) (omega arith) (c .before .before .before .before .before .before .before .before .before .plan-of .ensures) (c .before .before .before .before .before .before .end .given .1) in (read .room, read .legal, omega (arith, read .few), omega arith, lines-room read (c .before .before .before .put-read-line .ensures) (c .before .before .before .before .before .before .before .before .before .before .before .before .before .pre))
 
-enum-known-end-2 : tie.Need-enum-known-end-2
-enum-known-end-2 c = search needs
-
-put-refusal-line-requires-2 : tie.Need-put-refusal-line-requires-2
-put-refusal-line-requires-2 c κs = search needs
-
-same-length-2 : tie.Need-same-length-2
-same-length-2 c = search needs
-
 returns-2 : tie.Need-returns-2
 returns-2 c = let read = read-as _ _ (bytes-of (c .before .before .before .before .before .before .before .before .before .before .before .before .before .before .before .before .args .bytes .now) (λ i. (c .before .before .before .before .before .before .before .before .before .before .before .before .before .before .before .shared-slice-known .given i) .fits)) (omega arith) (c .before .before .before .before .before .before .before .before .before .before .before .before .plan-of .ensures) (c .before .before .before .before .before .before .before .before .before .end .given .1) in record-listed read (c .before .before .before .before .before .before .put-read-line .ensures) (c .before .before .before .before .before .before .before .before .before .before .before .before .before .before .before .before .pre) (c .before .before .put-plan-lines .ensures .0) (c .before .before .put-plan-lines .ensures .1)
-
-same-length-3 : tie.Need-same-length-3
-same-length-3 c = search needs
 
 returns-3 : tie.Need-returns-3
 returns-3 c = refusal-listed _ _ (judged-refused _ _ (omega arith) (c .before .before .before .before .before .before .before .before .plan-of .ensures) (c .before .before .before .before .before .end2 .given .1)) (c .before .before .put-refusal-line2 .ensures)
 
 pub put-record-spec : {M : Type 1} → statement M
-put-record-spec =
-    tie.close
-    (tie.spec
-    refused-unread-requires
-    put-refusal-line-requires
-    same-length
-    returns
-    plan-of-requires
-    enum-known-end
-    sub-tail
-    put-read-line-requires
-    put-plan-lines-requires
-    enum-known-end-2
-    put-refusal-line-requires-2
-    same-length-2
-    returns-2
-    same-length-3
-    returns-3)
+put-record-spec = tie.close (tie.spec
+    (search needs) (search needs) (search needs) returns (search needs) (search needs) sub-tail (search needs) put-plan-lines-requires
+    (search needs) (search needs) (search needs) returns-2 (search needs) returns-3)

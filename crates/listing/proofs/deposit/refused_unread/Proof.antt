@@ -6,25 +6,14 @@ use Rattle.listing.proofs.Deposits.{is-kind, no-kind-unread, kind-unrea
 use Rattle.listing.proofs.deposit.refused_unread.Statement.{statement}
 use Rattle.listing.proofs.deposit.refused_unread.Tie as tie
 
-bad-kind-requires : tie.Need-bad-kind-requires
-bad-kind-requires c κs = search needs
-
 returns : tie.Need-returns
 returns c = no-kind-unread (c .before .before .args .kind) (c .bad-kind .ensures) (omega arith) (outside (c .before .before .args .kind) (λ h. omega arith))
 
-bad-kind-requires-2 : tie.Need-bad-kind-requires-2
-bad-kind-requires-2 c κs = search needs
-
 returns-2 : tie.Need-returns-2
 returns-2 c = no-kind-unread (c .before .before .before .args .kind) (c .bad-kind2 .ensures) (omega arith) (outside (c .before .before .before .args .kind) (λ h. omega arith))
-
-oversize-requires : tie.Need-oversize-requires
-oversize-requires c κs = search needs
 
 returns-3 : tie.Need-returns-3
 returns-3 c = kind-unread (c .before .before .before .args .kind) (c .oversize .ensures) (is-kind (c .before .before .before .args .kind) (omega arith) (omega arith))
 
 pub refused-unread-spec : {M : Type 1} → statement M
-refused-unread-spec =
-    tie.close
-    (tie.spec bad-kind-requires returns bad-kind-requires-2 returns-2 oversize-requires returns-3)
+refused-unread-spec = tie.close (tie.spec (search needs) returns (search needs) returns-2 (search needs) returns-3)

@@ -15,29 +15,17 @@ add-size c = omega (arith, c .before .before .before .before .pre .1)
 add-body : tie.Need-add-body
 add-body c = omega (arith, c .before .before .before .before .pre .1)
 
-wide-requires : tie.Need-wide-requires
-wide-requires c κs = search needs
-
 put-number-line-requires : tie.Need-put-number-line-requires
 put-number-line-requires c κs = omega (arith, c .before .before .before .before .before .before .pre .2)
 
-len-requires : tie.Need-len-requires
-len-requires c κs = search needs
-
 put-number-line-requires-2 : tie.Need-put-number-line-requires-2
 put-number-line-requires-2 c κs = puts-left 70 (c .before .before .before .before .put-number-line .ensures) (number-line-length _ _ Word.Code _) 70 (omega (arith, c .before .before .before .before .before .before .before .before .before .before .before .pre .2))
-
-part-requires : tie.Need-part-requires
-part-requires c κs = search needs
 
 put-bytes-line-requires : tie.Need-put-bytes-line-requires
 put-bytes-line-requires c κs = let a = c .before .before .before .before .before .before .before .before .before .before .before .before .before .before .before .before in
     let k = 50 + 2 * lenOf (a .args .x .«pcr_select») in
     let left = puts-left 70 (c .before .before .before .before .put-number-line2 .ensures) (number-line-length _ _ Word.Number _) k (puts-left 70 (c .before .before .before .before .before .before .before .before .before .put-number-line .ensures) (number-line-length _ _ Word.Code _) (70 + k) (omega (arith, a .pre .2))) in
     omega (arith, part-length (a .args .x .«pcr_select») (a .args .xs .now) (a .pre .0) (c .before .part .ensures), left)
-
-same-length : tie.Need-same-length
-same-length c = search needs
 
 returns : tie.Need-returns
 returns c = let a = c .before .before .before .before .before .before .before .before .before .before .before .before .before .before .before .before .before .before .before in
@@ -51,16 +39,6 @@ returns c = let a = c .before .before .before .before .before .before .before .b
     (puts-both 70 first (number-line-length _ _ Word.Code _) (omega (arith, a .pre .2)) (puts-both 70 second (number-line-length _ _ Word.Number _) (omega (arith, room)) third))
 
 pub put-item-spec : {M : Type 1} → statement M
-put-item-spec =
-    tie.close
-    (tie.spec
-    add-size
-    add-body
-    wide-requires
-    put-number-line-requires
-    len-requires
-    put-number-line-requires-2
-    part-requires
-    put-bytes-line-requires
-    same-length
-    returns)
+put-item-spec = tie.close (tie.spec
+    add-size add-body (search needs) put-number-line-requires (search needs) put-number-line-requires-2 (search needs)
+    put-bytes-line-requires (search needs) returns)

@@ -13,23 +13,8 @@ use Rattle.listing.proofs.Itemized.{count-few, list-text}
 use Rattle.listing.proofs.item.put_list_lines.Statement.{statement}
 use Rattle.listing.proofs.item.put_list_lines.Tie as tie
 
-part-requires : tie.Need-part-requires
-part-requires c κs = search needs
-
-uint32-requires : tie.Need-uint32-requires
-uint32-requires c κs = search needs
-
-enum-known-n : tie.Need-enum-known-n
-enum-known-n c = search needs
-
-cast-count : tie.Need-cast-count
-cast-count c = search needs
-
 put-number-line-requires : tie.Need-put-number-line-requires
 put-number-line-requires c κs = omega (arith, c .before .before .before .before .before .before .before .before .pre .3)
-
-cast-put-items : tie.Need-cast-put-items
-cast-put-items c = search needs
 
 put-items-requires : tie.Need-put-items-requires
 put-items-requires c κs = let a = c .before .before .before .before .before .before .before .before .before .before .before .before in
@@ -39,12 +24,6 @@ put-items-requires c κs = let a = c .before .before .before .before .before .be
     let k = 3040 + 2 * lenOf (a .args .list) in
     let left = puts-left 70 (c .before .before .before .put-number-line .ensures) (number-line-length _ _ Word.Number _) k (omega (arith, a .pre .3)) in
     (omega arith, a .pre .1, omega (arith, a .pre .2, inside, size), omega (arith, left, size))
-
-enum-told : tie.Need-enum-told
-enum-told c = search needs
-
-same-length : tie.Need-same-length
-same-length c = search needs
 
 returns : tie.Need-returns
 returns c = let a = c .before .before .before .before .before .before .before .before .before .before .before .before .before .before .before in
@@ -62,17 +41,6 @@ returns-2 c = let a = c .before .before .before .before .before .before in
     absurd (count-there _ w (told uint32Answer (c .enum-told .given .1) (c .before .before .uint32 .ensures)))
 
 pub put-list-lines-spec : {M : Type 1} → statement M
-put-list-lines-spec =
-    tie.close
-    (tie.spec
-    part-requires
-    uint32-requires
-    enum-known-n
-    cast-count
-    put-number-line-requires
-    cast-put-items
-    put-items-requires
-    enum-told
-    same-length
-    returns
-    returns-2)
+put-list-lines-spec = tie.close (tie.spec
+    (search needs) (search needs) (search needs) (search needs) put-number-line-requires (search needs) put-items-requires (search needs)
+    (search needs) returns returns-2)

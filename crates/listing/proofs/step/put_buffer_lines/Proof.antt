@@ -12,17 +12,11 @@ use Rattle.listing.proofs.step.put_buffer_lines.Tie as tie
 add-body : tie.Need-add-body
 add-body c = omega (arith, c .before .before .pre .1)
 
-len-requires : tie.Need-len-requires
-len-requires c κs = search needs
-
 put-number-line-requires : tie.Need-put-number-line-requires
 put-number-line-requires c κs = omega (arith, c .before .before .before .before .pre .2)
 
 put-span-line-requires : tie.Need-put-span-line-requires
 put-span-line-requires c κs = let a = c .before .before .before .before .before .before .before .before in (a .pre .0, puts-left 70 (c .before .before .before .put-number-line .ensures) (number-line-length _ _ Word.Number _) (50 + 2 * lenOf (a .args .span)) (omega (arith, a .pre .2)))
-
-same-length : tie.Need-same-length
-same-length c = search needs
 
 returns : tie.Need-returns
 returns c = let a = c .before .before .before .before .before .before .before .before .before .before .before in
@@ -30,12 +24,4 @@ returns c = let a = c .before .before .before .before .before .before .before .b
     puts-both 70 first (number-line-length _ _ Word.Number _) (omega (arith, a .pre .2)) (c .before .before .put-span-line .ensures)
 
 pub put-buffer-lines-spec : {M : Type 1} → statement M
-put-buffer-lines-spec =
-    tie.close
-    (tie.spec
-    add-body
-    len-requires
-    put-number-line-requires
-    put-span-line-requires
-    same-length
-    returns)
+put-buffer-lines-spec = tie.close (tie.spec add-body (search needs) put-number-line-requires put-span-line-requires (search needs) returns)

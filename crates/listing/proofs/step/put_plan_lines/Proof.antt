@@ -58,19 +58,6 @@ unfolding steps
 returns c = let a = c .before .before .before .before .before in let l = c .before .loop in (listed-all (l .inv) (a .pre .0 .all) (a .pre .0 .left) (a .pre .2) (a .pre .4) (omega arith), listed-near (l .inv) (a .pre .0 .all) (a .pre .0 .left) (a .pre .2) (a .pre .4))
 
 pub put-plan-lines-spec : {M : Type 1} → statement M
-put-plan-lines-spec =
-    tie.close
-    (tie.spec
-    Inv-loop
-    μ-loop
-    loop-holds
-    mul-c
-    array-copy-out-c
-    put-step-lines-requires
-    step-size-requires
-    add-place
-    add-i
-    loop-less
-    loop-again
-    same-length
-    returns)
+put-plan-lines-spec = tie.close (tie.spec
+    Inv-loop μ-loop loop-holds mul-c array-copy-out-c put-step-lines-requires step-size-requires add-place add-i loop-less loop-again
+    same-length returns)

@@ -10,59 +10,14 @@ use Rattle.plans.proofs.Items.{legal-list, refused-list, count-is, coun
 use Rattle.plans.proofs.item.item_in.Statement.{statement}
 use Rattle.plans.proofs.item.item_in.Tie as tie
 
-judge-list-requires : tie.Need-judge-list-requires
-judge-list-requires c κs = search needs
-
-enum-told : tie.Need-enum-told
-enum-told c = search needs
-
-enum-known-f : tie.Need-enum-known-f
-enum-known-f c = search needs
-
 returns : tie.Need-returns
 returns c = let a = c .before .before .before .before .before in refused-list _ (a .args .s .now) (a .args .index) (told measureAnswer (c .before .f .given .1) (c .before .before .before .judge-list .ensures .0))
-
-part-requires : tie.Need-part-requires
-part-requires c κs = search needs
-
-uint32-requires : tie.Need-uint32-requires
-uint32-requires c κs = search needs
-
-enum-known-n : tie.Need-enum-known-n
-enum-known-n c = search needs
-
-cast-walk-to : tie.Need-cast-walk-to
-cast-walk-to c = search needs
-
-walk-to-requires : tie.Need-walk-to-requires
-walk-to-requires c κs = search needs
-
-enum-known-t : tie.Need-enum-known-t
-enum-known-t c = search needs
-
-start-requires : tie.Need-start-requires
-start-requires c κs = search needs
-
-start-requires-2 : tie.Need-start-requires-2
-start-requires-2 c κs = search needs
 
 add-start : tie.Need-add-start
 add-start c = let a = c .before .before .before .before .before .before .before .before .before .before .before .before .before .before .before in
     let judged = legal-list (a .args .list) (a .args .s .now) (told measureAnswer (c .before .before .before .before .before .before .before .before .before .before .before .enum-told .given .1) (c .before .before .before .before .before .before .before .before .before .before .before .before .before .judge-list .ensures .0)) (c .before .before .before .before .before .before .before .before .before .before .part .ensures) in
     let inside = subst (λ r. ItemInside r (c .before .before .before .before .before .before .before .before .before .before .part .result .now)) (c .before .before .before .t .given .1) (c .before .before .before .before .before .walk-to .ensures .1) in
     omega (arith, in-source (a .args .list) (a .args .s .now) judged _ _ inside, c .before .start .ensures, c .start2 .ensures, a .good)
-
-len-requires : tie.Need-len-requires
-len-requires c κs = search needs
-
-new-requires : tie.Need-new-requires
-new-requires c κs = search needs
-
-enum-known-f-2 : tie.Need-enum-known-f-2
-enum-known-f-2 c = search needs
-
-enum-known-f-3 : tie.Need-enum-known-f-3
-enum-known-f-3 c = search needs
 
 returns-2 : tie.Need-returns-2
 returns-2 c = let a = c .before .before .before .before .before .before .before .before .before .before .before .before .before .before .before .before .before in
@@ -85,26 +40,7 @@ returns-4 c = let a = c .before .before .before .before .before .before .before 
     absurd (count-there _ (judged .1) (told uint32Answer (c .before .f3 .given .1) (c .before .before .before .uint32 .ensures)))
 
 pub item-in-spec : {M : Type 1} → statement M
-item-in-spec =
-    tie.close
-    (tie.spec
-    judge-list-requires
-    enum-told
-    enum-known-f
-    returns
-    part-requires
-    uint32-requires
-    enum-known-n
-    cast-walk-to
-    walk-to-requires
-    enum-known-t
-    start-requires
-    start-requires-2
-    add-start
-    len-requires
-    new-requires
-    enum-known-f-2
-    enum-known-f-3
-    returns-2
-    returns-3
+item-in-spec = tie.close (tie.spec
+    (search needs) (search needs) (search needs) returns (search needs) (search needs) (search needs) (search needs) (search needs)
+    (search needs) (search needs) (search needs) add-start (search needs) (search needs) (search needs) (search needs) returns-2 returns-3
     returns-4)

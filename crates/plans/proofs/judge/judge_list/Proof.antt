@@ -9,21 +9,6 @@ use Rattle.plans.proofs.Reach.{list-near, list-place, list-inside, part
 use Rattle.plans.proofs.judge.judge_list.Statement.{statement}
 use Rattle.plans.proofs.judge.judge_list.Tie as tie
 
-measure-requires : tie.Need-measure-requires
-measure-requires c κs = search needs
-
-enum-known-len : tie.Need-enum-known-len
-enum-known-len c = search needs
-
-part-requires : tie.Need-part-requires
-part-requires c κs = search needs
-
-list-end-requires : tie.Need-list-end-requires
-list-end-requires c κs = search needs
-
-enum-known-e : tie.Need-enum-known-e
-enum-known-e c = search needs
-
 add-end : tie.Need-add-end
 add-end c = omega (arith, list-near _ (told measureAnswer (c .before .e .given .1) (c .before .before .before .list-end .ensures)))
 
@@ -37,20 +22,8 @@ sub-left c = let src = c .before .before .before .before .before .before .before
     let bytes = part-bytes src _ _ 0 (c .before .before .before .before .before .part .ensures) (bytes-of src (λ i. (c .before .before .before .before .before .before .before .before .before .before .shared-slice-known .given i) .fits)) in
     omega (arith, list-inside _ bytes (told measureAnswer (c .before .before .e .given .1) (c .before .before .before .before .list-end .ensures)), list-size _ _ _ p (c .before .before .before .before .before .part .ensures))
 
-trailing-requires : tie.Need-trailing-requires
-trailing-requires c κs = search needs
-
-enum-known-f : tie.Need-enum-known-f
-enum-known-f c = search needs
-
 add-place : tie.Need-add-place
 add-place c = omega (arith, list-place _ (told measureAnswer (c .before .before .f .given .1) (c .before .before .before .before .list-end .ensures)))
-
-placed-at-requires : tie.Need-placed-at-requires
-placed-at-requires c κs = search needs
-
-enum-known-f-2 : tie.Need-enum-known-f-2
-enum-known-f-2 c = search needs
 
 returns-2 : tie.Need-returns-2
 returns-2 c = (rw (c .trailing .ensures) (list-trailing _ _ _ (told measureAnswer (c .before .before .before .before .before .before .before .before .len .given .1) (c .before .before .before .before .before .before .before .before .before .before .measure .ensures)) (c .before .before .before .before .before .before .part .ensures) (told measureAnswer (c .before .before .before .e .given .1) (c .before .before .before .before .before .list-end .ensures)) (c .before .if1 .left)), tt)
@@ -62,22 +35,6 @@ returns-4 : tie.Need-returns-4
 returns-4 c = (list-out _ _ _ (told measureAnswer (c .before .f2 .given .1) (c .before .before .before .measure .ensures)), tt)
 
 pub judge-list-spec : {M : Type 1} → statement M
-judge-list-spec =
-    tie.close
-    (tie.spec
-    measure-requires
-    enum-known-len
-    part-requires
-    list-end-requires
-    enum-known-e
-    add-end
-    returns
-    sub-left
-    trailing-requires
-    enum-known-f
-    add-place
-    placed-at-requires
-    enum-known-f-2
-    returns-2
-    returns-3
-    returns-4)
+judge-list-spec = tie.close (tie.spec
+    (search needs) (search needs) (search needs) (search needs) (search needs) add-end returns sub-left (search needs) (search needs)
+    add-place (search needs) (search needs) returns-2 returns-3 returns-4)

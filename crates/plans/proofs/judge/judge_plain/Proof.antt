@@ -8,26 +8,11 @@ use Rattle.plans.proofs.Judged.{plain-good, plain-wrong, plain-out}
 use Rattle.plans.proofs.judge.judge_plain.Statement.{statement}
 use Rattle.plans.proofs.judge.judge_plain.Tie as tie
 
-len-requires : tie.Need-len-requires
-len-requires c κs = search needs
-
-mismatch-requires : tie.Need-mismatch-requires
-mismatch-requires c κs = search needs
-
 returns : tie.Need-returns
 returns c = (rw (c .mismatch .ensures) (plain-wrong _ _ _ (λ e. c .before .if1 .taken (c .before .before .len .ensures ∙ e))), tt)
 
-measure-requires : tie.Need-measure-requires
-measure-requires c κs = search needs
-
-enum-told : tie.Need-enum-told
-enum-told c = search needs
-
 add-end : tie.Need-add-end
 add-end c = omega arith
-
-enum-known-f : tie.Need-enum-known-f
-enum-known-f c = search needs
 
 returns-2 : tie.Need-returns-2
 returns-2 c = (rw (c .before .before .before .before .len .ensures) (plain-good _ _ _ (sym (c .before .before .before .before .len .ensures) ∙ c .before .before .before .if1 .left) (told measureAnswer (c .enum-told .given .1) (c .before .before .measure .ensures))), let same = c .before .before .before .if1 .left in omega arith)
@@ -36,15 +21,5 @@ returns-3 : tie.Need-returns-3
 returns-3 c = (plain-out _ _ _ (sym (c .before .before .before .before .before .len .ensures) ∙ c .before .before .before .before .if1 .left) (told measureAnswer (c .before .f .given .1) (c .before .before .before .measure .ensures)), tt)
 
 pub judge-plain-spec : {M : Type 1} → statement M
-judge-plain-spec =
-    tie.close
-    (tie.spec
-    len-requires
-    mismatch-requires
-    returns
-    measure-requires
-    enum-told
-    add-end
-    enum-known-f
-    returns-2
-    returns-3)
+judge-plain-spec = tie.close (tie.spec
+    (search needs) (search needs) returns (search needs) (search needs) add-end (search needs) returns-2 returns-3)

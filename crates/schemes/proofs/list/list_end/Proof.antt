@@ -6,47 +6,19 @@ use Rattle.wire.specs.Reading.{read}
 use Rattle.wire.proofs.Rest.{told}
 use Rattle.wire.proofs.Leaves.{list-items, list-long, list-short}
 use Rattle.kinds.specs.Answers.{uint32Answer}
-use Rattle.kinds.specs.Kinds.{pcrSelection}
+use Rattle.kinds.specs.Kinds.{tpmsPcrSelection}
 use Rattle.schemes.proofs.list.list_end.Statement.{statement}
 use Rattle.schemes.proofs.list.list_end.Tie as tie
 
-uint32-requires : tie.Need-uint32-requires
-uint32-requires c κs = search needs
-
-enum-known-n : tie.Need-enum-known-n
-enum-known-n c = search needs
-
-walk-items-requires : tie.Need-walk-items-requires
-walk-items-requires c κs = search needs
-
 returns : tie.Need-returns
-returns c = c .walk-items .ensures ∙ sym (list-items 16 (λ s a. read pcrSelection s a) _ _ (told uint32Answer (c .before .before .before .n .given .1) (c .before .before .before .before .before .uint32 .ensures)) (omega arith))
-
-wider-requires : tie.Need-wider-requires
-wider-requires c κs = search needs
-
-too-many-items-requires : tie.Need-too-many-items-requires
-too-many-items-requires c κs = search needs
-
-enum-known-f : tie.Need-enum-known-f
-enum-known-f c = search needs
+returns c = c .walk-items .ensures ∙ sym (list-items 16 (λ s a. read tpmsPcrSelection s a) _ _ (told uint32Answer (c .before .before .before .n .given .1) (c .before .before .before .before .before .uint32 .ensures)) (omega arith))
 
 returns-2 : tie.Need-returns-2
-returns-2 c = rw (c .too-many-items .ensures, c .before .wider .ensures) (sym (list-long 16 (λ s a. read pcrSelection s a) _ _ (told uint32Answer (c .before .before .before .before .n .given .1) (c .before .before .before .before .before .before .uint32 .ensures)) (omega arith)))
+returns-2 c = rw (c .too-many-items .ensures, c .before .wider .ensures) (sym (list-long 16 (λ s a. read tpmsPcrSelection s a) _ _ (told uint32Answer (c .before .before .before .before .n .given .1) (c .before .before .before .before .before .before .uint32 .ensures)) (omega arith)))
 
 returns-3 : tie.Need-returns-3
-returns-3 c = sym (list-short 16 (λ s a. read pcrSelection s a) _ _ (told uint32Answer (c .before .f .given .1) (c .before .before .before .uint32 .ensures)))
+returns-3 c = sym (list-short 16 (λ s a. read tpmsPcrSelection s a) _ _ (told uint32Answer (c .before .f .given .1) (c .before .before .before .uint32 .ensures)))
 
 pub list-end-spec : {M : Type 1} → statement M
-list-end-spec =
-    tie.close
-    (tie.spec
-    uint32-requires
-    enum-known-n
-    walk-items-requires
-    returns
-    wider-requires
-    too-many-items-requires
-    enum-known-f
-    returns-2
-    returns-3)
+list-end-spec = tie.close (tie.spec
+    (search needs) (search needs) (search needs) returns (search needs) (search needs) (search needs) returns-2 returns-3)

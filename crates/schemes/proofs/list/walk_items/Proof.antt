@@ -7,25 +7,19 @@ use mathlib.Core.Path.{_≡_, sym, _∙_}
 use Rattle.wire.specs.Reading.{read, walk}
 use Rattle.wire.proofs.Rest.{told}
 use Rattle.wire.proofs.Walks.{walk-on, walk-refused, walk-done}
-use Rattle.kinds.specs.Kinds.{pcrSelection}
-use Rattle.schemes.specs.Answers.{pcrSelectionAnswer}
+use Rattle.kinds.specs.Kinds.{tpmsPcrSelection}
+use Rattle.schemes.specs.Answers.{tpmsPcrSelectionAnswer}
 use Rattle.schemes.proofs.list.walk_items.Statement.{statement}
 use Rattle.schemes.proofs.list.walk_items.Tie as tie
 
 abbrev Inv-loop : tie.InvT-loop
-Inv-loop s at count end₀ i₀ end i = (i ≤ count) × (walk (λ s a. read pcrSelection s a) (count - i) s end ≡ walk (λ s a. read pcrSelection s a) count s at)
+Inv-loop s at count end₀ i₀ end i = (i ≤ count) × (walk (λ s a. read tpmsPcrSelection s a) (count - i) s end ≡ walk (λ s a. read tpmsPcrSelection s a) count s at)
 
 abbrev μ-loop : tie.MeasureT-loop
 μ-loop s at count end₀ i₀ end i = count - i
 
 loop-holds : tie.Need-loop-holds Inv-loop μ-loop
 loop-holds c = (omega arith, rw sub-zero)
-
-unmarshal-requires : tie.Need-unmarshal-requires Inv-loop μ-loop
-unmarshal-requires c κs = search needs
-
-enum-known-e : tie.Need-enum-known-e Inv-loop μ-loop
-enum-known-e c = search needs
 
 add-i : tie.Need-add-i Inv-loop μ-loop
 add-i c = omega arith
@@ -36,33 +30,18 @@ loop-less c = omega arith
 loop-again : tie.Need-loop-again Inv-loop μ-loop
 loop-again c =
     let l = c .before .before .before .before .before .loop in
-    (omega arith, sym (walk-on (λ s a. read pcrSelection s a) _ (c .before .before .before .before .before .before .before .args .count) (l .i) _ (omega arith) (told pcrSelectionAnswer (c .before .e .given .1) (c .before .before .before .unmarshal .ensures))) ∙ l .inv .1)
-
-enum-known-f : tie.Need-enum-known-f Inv-loop μ-loop
-enum-known-f c = search needs
+    (omega arith, sym (walk-on (λ s a. read tpmsPcrSelection s a) _ (c .before .before .before .before .before .before .before .args .count) (l .i) _ (omega arith) (told tpmsPcrSelectionAnswer (c .before .e .given .1) (c .before .before .before .unmarshal .ensures))) ∙ l .inv .1)
 
 returns : tie.Need-returns Inv-loop μ-loop
 returns c =
     let l = c .before .loop in
-    walk-done (λ s a. read pcrSelection s a) _ (c .before .before .before .args .count) (l .i) _ (omega arith) ∙ l .inv .1
+    walk-done (λ s a. read tpmsPcrSelection s a) _ (c .before .before .before .args .count) (l .i) _ (omega arith) ∙ l .inv .1
 
 returns-2 : tie.Need-returns-2 Inv-loop μ-loop
 returns-2 c =
     let l = c .before .before .before .before .before .loop in
-    sym (walk-refused (λ s a. read pcrSelection s a) _ (c .before .before .before .before .before .before .before .args .count) (l .i) _ (omega arith) (told pcrSelectionAnswer (c .before .f .given .1) (c .before .before .before .unmarshal .ensures))) ∙ l .inv .1
+    sym (walk-refused (λ s a. read tpmsPcrSelection s a) _ (c .before .before .before .before .before .before .before .args .count) (l .i) _ (omega arith) (told tpmsPcrSelectionAnswer (c .before .f .given .1) (c .before .before .before .unmarshal .ensures))) ∙ l .inv .1
 
 pub walk-items-spec : {M : Type 1} → statement M
-walk-items-spec =
-    tie.close
-    (tie.spec
-    Inv-loop
-    μ-loop
-    loop-holds
-    unmarshal-requires
-    enum-known-e
-    add-i
-    loop-less
-    loop-again
-    enum-known-f
-    returns
-    returns-2)
+walk-items-spec = tie.close (tie.spec
+    Inv-loop μ-loop loop-holds (search needs) (search needs) add-i loop-less loop-again (search needs) returns returns-2)

@@ -8,29 +8,17 @@ use Rattle.text.proofs.Rows.{puts-left, puts-both, puts-same, said-leng
 use Rattle.text.proofs.answer.put_read_line.Statement.{statement}
 use Rattle.text.proofs.answer.put_read_line.Tie as tie
 
-slice-aggregate-put-said : tie.Need-slice-aggregate-put-said
-slice-aggregate-put-said c = search needs
-
 put-said-requires : tie.Need-put-said-requires
 put-said-requires c κs = omega (arith, c .before .before .before .pre)
 
-slice-aggregate-put-said-2 : tie.Need-slice-aggregate-put-said-2
-slice-aggregate-put-said-2 c = search needs
-
 put-said-requires-2 : tie.Need-put-said-requires-2
 put-said-requires-2 c κs = puts-left 25 (c .before .before .before .before .put-said .ensures) (said-length (ascii "kind ") _ 5 (omega arith)) 26 (omega (arith, c .before .before .before .before .before .before .before .before .pre))
-
-slice-aggregate-put-said-3 : tie.Need-slice-aggregate-put-said-3
-slice-aggregate-put-said-3 c = search needs
 
 put-said-requires-3 : tie.Need-put-said-requires-3
 put-said-requires-3 c κs = puts-left 26 (c .before .before .before .before .put-said2 .ensures) (said-length (ascii " read ") _ 6 (omega arith)) 26 (puts-left 25 (c .before .before .before .before .before .before .before .before .before .put-said .ensures) (said-length (ascii "kind ") _ 5 (omega arith)) 52 (omega (arith, c .before .before .before .before .before .before .before .before .before .before .before .before .before .pre)))
 
 put-line-end-requires : tie.Need-put-line-end-requires
 put-line-end-requires c κs = puts-left 26 (c .before .before .before .put-said3 .ensures) (said-length (ascii " tail ") _ 6 (omega arith)) 1 (puts-left 26 (c .before .before .before .before .before .before .before .before .put-said2 .ensures) (said-length (ascii " read ") _ 6 (omega arith)) 27 (puts-left 25 (c .before .before .before .before .before .before .before .before .before .before .before .before .before .put-said .ensures) (said-length (ascii "kind ") _ 5 (omega arith)) 53 (c .before .before .before .before .before .before .before .before .before .before .before .before .before .before .before .before .before .pre)))
-
-same-length : tie.Need-same-length
-same-length c = search needs
 
 returns : tie.Need-returns
 returns c = let a = c .before .before .before .before .before .before .before .before .before .before .before .before .before .before .before .before .before .before .before .before in
@@ -43,15 +31,6 @@ returns c = let a = c .before .before .before .before .before .before .before .b
     (puts-both 26 (c .before .before .before .before .before .before .put-said3 .ensures) (said-length (ascii " tail ") _ 6 (omega arith)) (omega (arith, more)) (c .before .before .put-line-end .ensures))))
 
 pub put-read-line-spec : {M : Type 1} → statement M
-put-read-line-spec =
-    tie.close
-    (tie.spec
-    slice-aggregate-put-said
-    put-said-requires
-    slice-aggregate-put-said-2
-    put-said-requires-2
-    slice-aggregate-put-said-3
-    put-said-requires-3
-    put-line-end-requires
-    same-length
-    returns)
+put-read-line-spec = tie.close (tie.spec
+    (search needs) put-said-requires (search needs) put-said-requires-2 (search needs) put-said-requires-3 put-line-end-requires
+    (search needs) returns)

@@ -8,41 +8,20 @@ use Rattle.text.proofs.Rows.{puts-left, puts-both, puts-same, said-leng
 use Rattle.text.proofs.answer.put_refusal_line.Statement.{statement}
 use Rattle.text.proofs.answer.put_refusal_line.Tie as tie
 
-slice-aggregate-put-said : tie.Need-slice-aggregate-put-said
-slice-aggregate-put-said c = search needs
-
 put-said-requires : tie.Need-put-said-requires
 put-said-requires c κs = omega (arith, c .before .before .before .pre)
-
-slice-aggregate-put-said-2 : tie.Need-slice-aggregate-put-said-2
-slice-aggregate-put-said-2 c = search needs
-
-number-requires : tie.Need-number-requires
-number-requires c κs = search needs
-
-cast-put-said : tie.Need-cast-put-said
-cast-put-said c = search needs
 
 put-said-requires-2 : tie.Need-put-said-requires-2
 put-said-requires-2 c κs = puts-left 25 (c .before .before .before .before .before .put-said .ensures) (said-length (ascii "kind ") _ 5 (omega arith)) 29 (omega (arith, c .before .before .before .before .before .before .before .before .before .pre))
 
-slice-aggregate-put-said-3 : tie.Need-slice-aggregate-put-said-3
-slice-aggregate-put-said-3 c = search needs
-
 put-said-requires-3 : tie.Need-put-said-requires-3
 put-said-requires-3 c κs = puts-left 29 (c .before .before .before .before .put-said2 .ensures) (said-length (ascii " refused ") _ 9 (omega arith)) 24 (puts-left 25 (c .before .before .before .before .before .before .before .before .before .before .put-said .ensures) (said-length (ascii "kind ") _ 5 (omega arith)) 53 (omega (arith, c .before .before .before .before .before .before .before .before .before .before .before .before .before .before .pre)))
-
-slice-aggregate-put-said-4 : tie.Need-slice-aggregate-put-said-4
-slice-aggregate-put-said-4 c = search needs
 
 put-said-requires-4 : tie.Need-put-said-requires-4
 put-said-requires-4 c κs = puts-left 24 (c .before .before .before .before .put-said3 .ensures) (said-length (ascii " at ") _ 4 (omega arith)) 27 (puts-left 29 (c .before .before .before .before .before .before .before .before .before .put-said2 .ensures) (said-length (ascii " refused ") _ 9 (omega arith)) 51 (puts-left 25 (c .before .before .before .before .before .before .before .before .before .before .before .before .before .before .before .put-said .ensures) (said-length (ascii "kind ") _ 5 (omega arith)) 80 (omega (arith, c .before .before .before .before .before .before .before .before .before .before .before .before .before .before .before .before .before .before .before .pre))))
 
 put-line-end-requires : tie.Need-put-line-end-requires
 put-line-end-requires c κs = puts-left 27 (c .before .before .before .put-said4 .ensures) (said-length (ascii " value ") _ 7 (omega arith)) 1 (puts-left 24 (c .before .before .before .before .before .before .before .before .put-said3 .ensures) (said-length (ascii " at ") _ 4 (omega arith)) 28 (puts-left 29 (c .before .before .before .before .before .before .before .before .before .before .before .before .before .put-said2 .ensures) (said-length (ascii " refused ") _ 9 (omega arith)) 52 (puts-left 25 (c .before .before .before .before .before .before .before .before .before .before .before .before .before .before .before .before .before .before .before .put-said .ensures) (said-length (ascii "kind ") _ 5 (omega arith)) 81 (c .before .before .before .before .before .before .before .before .before .before .before .before .before .before .before .before .before .before .before .before .before .before .before .pre))))
-
-same-length : tie.Need-same-length
-same-length c = search needs
 
 returns : tie.Need-returns
 returns c = let a = c .before .before .before .before .before .before .before .before .before .before .before .before .before .before .before .before .before .before .before .before .before .before .before .before .before .before in
@@ -58,19 +37,6 @@ returns c = let a = c .before .before .before .before .before .before .before .b
     (puts-both 24 r (said-length (ascii " at ") _ 4 (omega arith)) (omega (arith, more)) (puts-both 27 (c .before .before .before .before .before .before .put-said4 .ensures) (said-length (ascii " value ") _ 7 (omega arith)) (omega (arith, last)) (c .before .before .put-line-end .ensures))))))
 
 pub put-refusal-line-spec : {M : Type 1} → statement M
-put-refusal-line-spec =
-    tie.close
-    (tie.spec
-    slice-aggregate-put-said
-    put-said-requires
-    slice-aggregate-put-said-2
-    number-requires
-    cast-put-said
-    put-said-requires-2
-    slice-aggregate-put-said-3
-    put-said-requires-3
-    slice-aggregate-put-said-4
-    put-said-requires-4
-    put-line-end-requires
-    same-length
-    returns)
+put-refusal-line-spec = tie.close (tie.spec
+    (search needs) put-said-requires (search needs) (search needs) (search needs) put-said-requires-2 (search needs) put-said-requires-3
+    (search needs) put-said-requires-4 put-line-end-requires (search needs) returns)

@@ -11,9 +11,6 @@ use Rattle.text.proofs.line.put_bytes_line.Tie as tie
 put-head-requires : tie.Need-put-head-requires
 put-head-requires c κs = omega (arith, c .before .before .before .pre)
 
-slice-aggregate-put-text : tie.Need-slice-aggregate-put-text
-slice-aggregate-put-text c = search needs
-
 put-text-requires : tie.Need-put-text-requires
 put-text-requires c κs = puts-left 41 (c .before .before .before .before .put-head .ensures) (head-length _ _) 7 (omega (arith, c .before .before .before .before .before .before .before .before .pre))
 
@@ -24,9 +21,6 @@ put-line-end-requires : tie.Need-put-line-end-requires
 put-line-end-requires c κs = let a = c .before .before .before .before .before .before .before .before .before .before .before .before .before .before .before .before in
     let k = 2 * length (a .args .xs .now) + 1 in
     puts-left k (c .before .before .before .put-hex .ensures) (hex-length (a .args .xs .now)) 1 (puts-left 7 (c .before .before .before .before .before .before .before .put-text .ensures) (omega arith) (k + 1) (puts-left 41 (c .before .before .before .before .before .before .before .before .before .before .before .before .put-head .ensures) (head-length _ _) (7 + (k + 1)) (omega (arith, a .pre))))
-
-same-length : tie.Need-same-length
-same-length c = search needs
 
 returns : tie.Need-returns
 returns c = let a = c .before .before .before .before .before .before .before .before .before .before .before .before .before .before .before .before .before .before .before in
@@ -39,13 +33,5 @@ returns c = let a = c .before .before .before .before .before .before .before .b
     (puts-both 41 p (head-length _ _) (omega (arith, a .pre)) (puts-both 7 q (omega arith) (omega (arith, room)) (puts-both k (c .before .before .before .before .before .before .put-hex .ensures) (hex-length (a .args .xs .now)) (omega (arith, more)) (c .before .before .put-line-end .ensures))))
 
 pub put-bytes-line-spec : {M : Type 1} → statement M
-put-bytes-line-spec =
-    tie.close
-    (tie.spec
-    put-head-requires
-    slice-aggregate-put-text
-    put-text-requires
-    put-hex-requires
-    put-line-end-requires
-    same-length
-    returns)
+put-bytes-line-spec = tie.close (tie.spec
+    put-head-requires (search needs) put-text-requires put-hex-requires put-line-end-requires (search needs) returns)

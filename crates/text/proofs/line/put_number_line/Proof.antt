@@ -18,9 +18,6 @@ put-decimal-requires c κs = puts-left 8 (c .before .before .before .put-word .e
 put-line-end-requires : tie.Need-put-line-end-requires
 put-line-end-requires c κs = puts-left 20 (c .before .before .before .put-decimal .ensures) (decimal-length _) 1 (puts-left 8 (c .before .before .before .before .before .before .before .put-word .ensures) (word-length (c .before .before .before .before .before .before .before .before .before .before .before .before .before .before .args .word)) 21 (puts-left 41 (c .before .before .before .before .before .before .before .before .before .before .before .put-head .ensures) (head-length _ _) 29 (c .before .before .before .before .before .before .before .before .before .before .before .before .before .before .pre)))
 
-same-length : tie.Need-same-length
-same-length c = search needs
-
 returns : tie.Need-returns
 returns c = let a = c .before .before .before .before .before .before .before .before .before .before .before .before .before .before .before .before .before in
     let p = c .before .before .before .before .before .before .before .before .before .before .before .before .before .before .put-head .ensures in
@@ -31,12 +28,5 @@ returns c = let a = c .before .before .before .before .before .before .before .b
     (puts-both 41 p (head-length _ _) (omega (arith, a .pre)) (puts-both 8 q (word-length (a .args .word)) (omega (arith, room)) (puts-both 20 (c .before .before .before .before .before .before .put-decimal .ensures) (decimal-length _) (omega (arith, more)) (c .before .before .put-line-end .ensures))))
 
 pub put-number-line-spec : {M : Type 1} → statement M
-put-number-line-spec =
-    tie.close
-    (tie.spec
-    put-head-requires
-    put-word-requires
-    put-decimal-requires
-    put-line-end-requires
-    same-length
-    returns)
+put-number-line-spec = tie.close (tie.spec
+    put-head-requires put-word-requires put-decimal-requires put-line-end-requires (search needs) returns)

@@ -20,9 +20,6 @@ slice-aggregate-put-text c = refl
 put-text-requires : tie.Need-put-text-requires Inv-loop μ-loop
 put-text-requires c κs = omega (arith, c .before .before .before .before .before .pre)
 
-same-length : tie.Need-same-length Inv-loop μ-loop
-same-length c = search needs
-
 returns : tie.Need-returns Inv-loop μ-loop
 returns c = rw (← hex-none (c .before .before .before .before .before .before .before .before .args .xs .now) (c .before .before .before .before .before .if1 .taken)) (c .before .before .put-text .ensures)
 
@@ -51,20 +48,6 @@ returns-2 : tie.Need-returns-2 Inv-loop μ-loop
 returns-2 c = paired-all (omega arith) (c .before .before .if1 .left) (c .before .loop .inv)
 
 pub put-hex-spec : {M : Type 1} → statement M
-put-hex-spec =
-    tie.close
-    (tie.spec
-    Inv-loop
-    μ-loop
-    slice-aggregate-put-text
-    put-text-requires
-    same-length
-    returns
-    loop-holds
-    shared-slice-read-put-pair
-    put-pair-requires
-    add-i
-    loop-less
-    loop-again
-    same-length-2
-    returns-2)
+put-hex-spec = tie.close (tie.spec
+    Inv-loop μ-loop slice-aggregate-put-text put-text-requires (search needs) returns loop-holds shared-slice-read-put-pair
+    put-pair-requires add-i loop-less loop-again same-length-2 returns-2)

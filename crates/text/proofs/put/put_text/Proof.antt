@@ -5,17 +5,8 @@ use Rattle.plans.proofs.Putting.{filled-puts}
 use Rattle.text.proofs.put.put_text.Statement.{statement}
 use Rattle.text.proofs.put.put_text.Tie as tie
 
-put-bytes-requires : tie.Need-put-bytes-requires
-put-bytes-requires c κs = search needs
-
-add-result : tie.Need-add-result
-add-result c = search needs
-
-same-length : tie.Need-same-length
-same-length c = search needs
-
 returns : tie.Need-returns
 returns c = filled-puts _ _ _ refl (c .before .before .before .before .before .before .pre) (c .before .before .put-bytes .ensures .1)
 
 pub put-text-spec : {M : Type 1} → statement M
-put-text-spec = tie.close (tie.spec put-bytes-requires add-result same-length returns)
+put-text-spec = tie.close (tie.spec (search needs) (search needs) (search needs) returns)

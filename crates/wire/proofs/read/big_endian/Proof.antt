@@ -31,9 +31,6 @@ add-wide-byte c = omega arith
 shared-slice-read-wide-byte : tie.Need-shared-slice-read-wide-byte Inv-loop μ-loop
 shared-slice-read-wide-byte c = omega arith
 
-wide-byte-requires : tie.Need-wide-byte-requires Inv-loop μ-loop
-wide-byte-requires c κs = search needs
-
 byte : (c : tie.After-wide-byte Inv-loop μ-loop) → c .wide-byte .result < 256
 byte c = omega (arith, c .before .shared-slice-known2 .given (c .before .before .before .before .before .args .at + c .before .before .before .loop .i))
 
@@ -64,6 +61,5 @@ returns c =
     c .before .loop .inv .2 ∙ ap (λ k. be (take k (drop (a .at) (a .s .now)))) all
 
 pub big-endian-spec : {M : Type 1} → statement M
-big-endian-spec =
-    tie.close
-    (tie.spec Inv-loop μ-loop loop-holds mul-n add-wide-byte shared-slice-read-wide-byte wide-byte-requires add-n add-i loop-less loop-again returns)
+big-endian-spec = tie.close (tie.spec
+    Inv-loop μ-loop loop-holds mul-n add-wide-byte shared-slice-read-wide-byte (search needs) add-n add-i loop-less loop-again returns)

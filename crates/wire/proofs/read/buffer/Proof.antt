@@ -7,25 +7,10 @@ use Rattle.wire.proofs.Leaves.{buffer-body, buffer-long, buffer-short}
 use Rattle.wire.proofs.read.buffer.Statement.{statement}
 use Rattle.wire.proofs.read.buffer.Tie as tie
 
-number-requires : tie.Need-number-requires
-number-requires c κs = search needs
-
-enum-known-n : tie.Need-enum-known-n
-enum-known-n c = search needs
-
-plain-requires : tie.Need-plain-requires
-plain-requires c κs = search needs
-
 returns : tie.Need-returns
 returns c =
     let p = c .before .before .before in
     c .plain .ensures ∙ sym (buffer-body _ _ _ _ _ (ap numberAnswer (sym (p .n .given .1)) ∙ p .before .before .number .ensures) (omega arith))
-
-too-long-requires : tie.Need-too-long-requires
-too-long-requires c κs = search needs
-
-enum-known-f : tie.Need-enum-known-f
-enum-known-f c = search needs
 
 returns-2 : tie.Need-returns-2
 returns-2 c =
@@ -36,14 +21,4 @@ returns-3 : tie.Need-returns-3
 returns-3 c = let p = c .before in sym (buffer-short _ _ _ _ _ (ap numberAnswer (sym (p .f .given .1)) ∙ p .before .before .number .ensures))
 
 pub buffer-spec : {M : Type 1} → statement M
-buffer-spec =
-    tie.close
-    (tie.spec
-    number-requires
-    enum-known-n
-    plain-requires
-    returns
-    too-long-requires
-    enum-known-f
-    returns-2
-    returns-3)
+buffer-spec = tie.close (tie.spec (search needs) (search needs) (search needs) returns (search needs) (search needs) returns-2 returns-3)

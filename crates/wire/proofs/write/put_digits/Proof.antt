@@ -13,21 +13,6 @@ abbrev μ-loop : tie.MeasureT-loop
 loop-holds : tie.Need-loop-holds Inv-loop μ-loop
 loop-holds c = filling-none _ _ _ _
 
-sub-j : tie.Need-sub-j Inv-loop μ-loop
-sub-j c = search needs
-
-low-requires : tie.Need-low-requires Inv-loop μ-loop
-low-requires c κs = search needs
-
-add-out : tie.Need-add-out Inv-loop μ-loop
-add-out c = search needs
-
-slice-write-out : tie.Need-slice-write-out Inv-loop μ-loop
-slice-write-out c = search needs
-
-loop-less : tie.Need-loop-less Inv-loop μ-loop
-loop-less c = search needs
-
 loop-again : tie.Need-loop-again Inv-loop μ-loop
 loop-again c = rw (c .low .ensures) (filling-more _ _ _ _ _ _ _ (c .before .before .before .before .pre) (c .before .loop-test .taken) (c .before .before .loop .inv))
 
@@ -38,4 +23,5 @@ returns : tie.Need-returns Inv-loop μ-loop
 returns c = filling-all (c .before .loop .j) (c .loop-test .left) (c .before .loop .inv)
 
 pub put-digits-spec : {M : Type 1} → statement M
-put-digits-spec = tie.close (tie.spec Inv-loop μ-loop loop-holds sub-j low-requires add-out slice-write-out loop-less loop-again same-length returns)
+put-digits-spec = tie.close (tie.spec
+    Inv-loop μ-loop loop-holds (search needs) (search needs) (search needs) (search needs) (search needs) loop-again same-length returns)

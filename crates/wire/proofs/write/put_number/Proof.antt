@@ -9,17 +9,8 @@ use Rattle.wire.proofs.Filling.{fits-put, fits-not}
 use Rattle.wire.proofs.write.put_number.Statement.{statement}
 use Rattle.wire.proofs.write.put_number.Tie as tie
 
-bytes-requires : tie.Need-bytes-requires
-bytes-requires c κs = search needs
-
-left-requires : tie.Need-left-requires
-left-requires c κs = search needs
-
 put-digits-requires : tie.Need-put-digits-requires
 put-digits-requires c κs = omega (arith, width-range (c .before .before .before .before .before .args .w))
-
-same-length : tie.Need-same-length
-same-length c = search needs
 
 returns : tie.Need-returns
 returns c =
@@ -27,9 +18,6 @@ returns c =
     let a = b .before .before .args in
     rw (← b .bytes .ensures)
     (fits-put (a .at) (digits (b .bytes .result) (a .n)) (a .out .now) (sym (length-digits (b .bytes .result) (a .n))) (omega arith) (c .before .before .put-digits .ensures))
-
-no-room-requires : tie.Need-no-room-requires
-no-room-requires c κs = search needs
 
 returns-2 : tie.Need-returns-2
 returns-2 c =
@@ -39,4 +27,4 @@ returns-2 c =
     (fits-not (a .at) (digits (b .bytes .result) (a .n)) (a .out .now) (sym (length-digits (b .bytes .result) (a .n))) (omega arith))
 
 pub put-number-spec : {M : Type 1} → statement M
-put-number-spec = tie.close (tie.spec bytes-requires left-requires put-digits-requires same-length returns no-room-requires returns-2)
+put-number-spec = tie.close (tie.spec (search needs) (search needs) put-digits-requires (search needs) returns (search needs) returns-2)

@@ -6,24 +6,6 @@ use Rattle.wire.proofs.Cuts.{sized-part, unsized}
 use Rattle.wire.proofs.write.put_span.Statement.{statement}
 use Rattle.wire.proofs.write.put_span.Tie as tie
 
-measure-requires : tie.Need-measure-requires
-measure-requires c κs = search needs
-
-enum-told : tie.Need-enum-told
-enum-told c = search needs
-
-part-requires : tie.Need-part-requires
-part-requires c κs = search needs
-
-put-bytes-requires : tie.Need-put-bytes-requires
-put-bytes-requires c κs = search needs
-
-enum-known-f : tie.Need-enum-known-f
-enum-known-f c = search needs
-
-same-length : tie.Need-same-length
-same-length c = search needs
-
 returns : tie.Need-returns
 returns c =
     let p = c .before .before .before .before in
@@ -36,4 +18,5 @@ returns-2 c =
     rw (unsized _ _ _ _ (ap measureAnswer (sym (q .f .given .1)) ∙ q .before .before .measure .ensures)) (refl, refl)
 
 pub put-span-spec : {M : Type 1} → statement M
-put-span-spec = tie.close (tie.spec measure-requires enum-told part-requires put-bytes-requires enum-known-f same-length returns returns-2)
+put-span-spec = tie.close (tie.spec
+    (search needs) (search needs) (search needs) (search needs) (search needs) (search needs) returns returns-2)

@@ -4,21 +4,8 @@ use Rattle.writing.proofs.Marshalled.{marshalled}
 use Rattle.writing.proofs.marshal.attestation.Statement.{statement}
 use Rattle.writing.proofs.marshal.attestation.Tie as tie
 
-empty-requires : tie.Need-empty-requires
-empty-requires c κs = search needs
-
-attest-requires : tie.Need-attest-requires
-attest-requires c κs = search needs
-
-write-requires : tie.Need-write-requires
-write-requires c κs = search needs
-
-same-length : tie.Need-same-length
-same-length c = search needs
-
 returns : tie.Need-returns
 returns c = marshalled (c .before .before .before .before .before .empty .ensures .0) (c .before .before .before .before .attest .ensures) (c .before .before .write .ensures)
 
 pub attestation-spec : {M : Type 1} → statement M
-attestation-spec =
-    tie.close (tie.spec empty-requires attest-requires write-requires same-length returns)
+attestation-spec = tie.close (tie.spec (search needs) (search needs) (search needs) (search needs) returns)

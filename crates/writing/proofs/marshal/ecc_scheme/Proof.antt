@@ -4,21 +4,8 @@ use Rattle.writing.proofs.Marshalled.{marshalled}
 use Rattle.writing.proofs.marshal.ecc_scheme.Statement.{statement}
 use Rattle.writing.proofs.marshal.ecc_scheme.Tie as tie
 
-empty-requires : tie.Need-empty-requires
-empty-requires c κs = search needs
-
-ecc-scheme-requires : tie.Need-ecc-scheme-requires
-ecc-scheme-requires c κs = search needs
-
-write-requires : tie.Need-write-requires
-write-requires c κs = search needs
-
-same-length : tie.Need-same-length
-same-length c = search needs
-
 returns : tie.Need-returns
 returns c = marshalled (c .before .before .before .before .before .empty .ensures .0) (c .before .before .before .before .ecc-scheme .ensures) (c .before .before .write .ensures)
 
 pub ecc-scheme-spec : {M : Type 1} → statement M
-ecc-scheme-spec =
-    tie.close (tie.spec empty-requires ecc-scheme-requires write-requires same-length returns)
+ecc-scheme-spec = tie.close (tie.spec (search needs) (search needs) (search needs) (search needs) returns)

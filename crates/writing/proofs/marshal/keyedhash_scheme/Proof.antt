@@ -4,21 +4,8 @@ use Rattle.writing.proofs.Marshalled.{marshalled}
 use Rattle.writing.proofs.marshal.keyedhash_scheme.Statement.{statement}
 use Rattle.writing.proofs.marshal.keyedhash_scheme.Tie as tie
 
-empty-requires : tie.Need-empty-requires
-empty-requires c κs = search needs
-
-keyedhash-scheme-requires : tie.Need-keyedhash-scheme-requires
-keyedhash-scheme-requires c κs = search needs
-
-write-requires : tie.Need-write-requires
-write-requires c κs = search needs
-
-same-length : tie.Need-same-length
-same-length c = search needs
-
 returns : tie.Need-returns
 returns c = marshalled (c .before .before .before .before .before .empty .ensures .0) (c .before .before .before .before .keyedhash-scheme .ensures) (c .before .before .write .ensures)
 
 pub keyedhash-scheme-spec : {M : Type 1} → statement M
-keyedhash-scheme-spec =
-    tie.close (tie.spec empty-requires keyedhash-scheme-requires write-requires same-length returns)
+keyedhash-scheme-spec = tie.close (tie.spec (search needs) (search needs) (search needs) (search needs) returns)

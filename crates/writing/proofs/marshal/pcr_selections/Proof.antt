@@ -4,21 +4,8 @@ use Rattle.writing.proofs.Marshalled.{marshalled}
 use Rattle.writing.proofs.marshal.pcr_selections.Statement.{statement}
 use Rattle.writing.proofs.marshal.pcr_selections.Tie as tie
 
-empty-requires : tie.Need-empty-requires
-empty-requires c κs = search needs
-
-pcr-selections-requires : tie.Need-pcr-selections-requires
-pcr-selections-requires c κs = search needs
-
-write-requires : tie.Need-write-requires
-write-requires c κs = search needs
-
-same-length : tie.Need-same-length
-same-length c = search needs
-
 returns : tie.Need-returns
 returns c = marshalled (c .before .before .before .before .before .empty .ensures .0) (c .before .before .before .before .pcr-selections .ensures) (c .before .before .write .ensures)
 
 pub pcr-selections-spec : {M : Type 1} → statement M
-pcr-selections-spec =
-    tie.close (tie.spec empty-requires pcr-selections-requires write-requires same-length returns)
+pcr-selections-spec = tie.close (tie.spec (search needs) (search needs) (search needs) (search needs) returns)

@@ -4,21 +4,8 @@ use Rattle.writing.proofs.Marshalled.{marshalled}
 use Rattle.writing.proofs.marshal.public_area.Statement.{statement}
 use Rattle.writing.proofs.marshal.public_area.Tie as tie
 
-empty-requires : tie.Need-empty-requires
-empty-requires c κs = search needs
-
-public-area-requires : tie.Need-public-area-requires
-public-area-requires c κs = search needs
-
-write-requires : tie.Need-write-requires
-write-requires c κs = search needs
-
-same-length : tie.Need-same-length
-same-length c = search needs
-
 returns : tie.Need-returns
 returns c = marshalled (c .before .before .before .before .before .empty .ensures .0) (c .before .before .before .before .public-area .ensures) (c .before .before .write .ensures)
 
 pub public-area-spec : {M : Type 1} → statement M
-public-area-spec =
-    tie.close (tie.spec empty-requires public-area-requires write-requires same-length returns)
+public-area-spec = tie.close (tie.spec (search needs) (search needs) (search needs) (search needs) returns)

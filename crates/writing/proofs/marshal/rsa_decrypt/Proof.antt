@@ -4,21 +4,8 @@ use Rattle.writing.proofs.Marshalled.{marshalled}
 use Rattle.writing.proofs.marshal.rsa_decrypt.Statement.{statement}
 use Rattle.writing.proofs.marshal.rsa_decrypt.Tie as tie
 
-empty-requires : tie.Need-empty-requires
-empty-requires c κs = search needs
-
-rsa-decrypt-requires : tie.Need-rsa-decrypt-requires
-rsa-decrypt-requires c κs = search needs
-
-write-requires : tie.Need-write-requires
-write-requires c κs = search needs
-
-same-length : tie.Need-same-length
-same-length c = search needs
-
 returns : tie.Need-returns
 returns c = marshalled (c .before .before .before .before .before .empty .ensures .0) (c .before .before .before .before .rsa-decrypt .ensures) (c .before .before .write .ensures)
 
 pub rsa-decrypt-spec : {M : Type 1} → statement M
-rsa-decrypt-spec =
-    tie.close (tie.spec empty-requires rsa-decrypt-requires write-requires same-length returns)
+rsa-decrypt-spec = tie.close (tie.spec (search needs) (search needs) (search needs) (search needs) returns)

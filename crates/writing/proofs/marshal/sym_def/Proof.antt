@@ -4,21 +4,8 @@ use Rattle.writing.proofs.Marshalled.{marshalled}
 use Rattle.writing.proofs.marshal.sym_def.Statement.{statement}
 use Rattle.writing.proofs.marshal.sym_def.Tie as tie
 
-empty-requires : tie.Need-empty-requires
-empty-requires c κs = search needs
-
-sym-def-requires : tie.Need-sym-def-requires
-sym-def-requires c κs = search needs
-
-write-requires : tie.Need-write-requires
-write-requires c κs = search needs
-
-same-length : tie.Need-same-length
-same-length c = search needs
-
 returns : tie.Need-returns
 returns c = marshalled (c .before .before .before .before .before .empty .ensures .0) (c .before .before .before .before .sym-def .ensures) (c .before .before .write .ensures)
 
 pub sym-def-spec : {M : Type 1} → statement M
-sym-def-spec =
-    tie.close (tie.spec empty-requires sym-def-requires write-requires same-length returns)
+sym-def-spec = tie.close (tie.spec (search needs) (search needs) (search needs) (search needs) returns)

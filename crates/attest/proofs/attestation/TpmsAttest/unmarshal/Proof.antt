@@ -2,90 +2,33 @@
 use borrow.Author.Needs.{needs}
 use mathlib.Core.Path.{sym, _∙_}
 use Rattle.wire.proofs.Rest.{told, begin, past-number, past-buffer, fails-number, fails-buffer}
-use Rattle.kinds.specs.Kinds.{attest}
-use Rattle.kinds.specs.Answers.{uint32Answer, attestationAnswer}
+use Rattle.kinds.specs.Kinds.{tpmsAttest}
+use Rattle.kinds.specs.Answers.{uint32Answer, tpmStAnswer}
 use Rattle.wire.specs.Answers.{spanAnswer}
 use Rattle.attest.proofs.attestation.TpmsAttest.unmarshal.Statement.{statement}
 use Rattle.attest.proofs.attestation.TpmsAttest.unmarshal.Tie as tie
 
-magic-number-requires : tie.Need-magic-number-requires
-magic-number-requires c κs = search needs
-
-enum-known-v : tie.Need-enum-known-v
-enum-known-v c = search needs
-
-enum-known-f : tie.Need-enum-known-f
-enum-known-f c = search needs
-
 returns : tie.Need-returns
-unfolding attest
+unfolding tpmsAttest
 returns c = fails-number (begin _ _ _) (told uint32Answer (c .before .f .given .1) (c .before .before .before .magic-number .ensures))
 
-unmarshal-requires : tie.Need-unmarshal-requires
-unmarshal-requires c κs = search needs
-
-enum-known-v-2 : tie.Need-enum-known-v-2
-enum-known-v-2 c = search needs
-
-enum-known-f-2 : tie.Need-enum-known-f-2
-enum-known-f-2 c = search needs
-
 returns-2 : tie.Need-returns-2
-unfolding attest
-returns-2 c = fails-number (past-number (begin _ _ _) (told uint32Answer (c .before .before .before .before .before .v .given .1) (c .before .before .before .before .before .before .before .magic-number .ensures))) (told attestationAnswer (c .before .f2 .given .1) (c .before .before .before .unmarshal .ensures))
-
-buffer-requires : tie.Need-buffer-requires
-buffer-requires c κs = search needs
-
-enum-known-v-3 : tie.Need-enum-known-v-3
-enum-known-v-3 c = search needs
-
-enum-known-f-3 : tie.Need-enum-known-f-3
-enum-known-f-3 c = search needs
+unfolding tpmsAttest
+returns-2 c = fails-number (past-number (begin _ _ _) (told uint32Answer (c .before .before .before .before .before .v .given .1) (c .before .before .before .before .before .before .before .magic-number .ensures))) (told tpmStAnswer (c .before .f2 .given .1) (c .before .before .before .unmarshal .ensures))
 
 returns-3 : tie.Need-returns-3
-unfolding attest
-returns-3 c = fails-buffer (past-number (past-number (begin _ _ _) (told uint32Answer (c .before .before .before .before .before .before .before .before .before .v .given .1) (c .before .before .before .before .before .before .before .before .before .before .before .magic-number .ensures))) (told attestationAnswer (c .before .before .before .before .before .v2 .given .1) (c .before .before .before .before .before .before .before .unmarshal .ensures))) (told spanAnswer (c .before .f3 .given .1) (c .before .before .before .buffer .ensures))
-
-buffer-requires-2 : tie.Need-buffer-requires-2
-buffer-requires-2 c κs = search needs
-
-enum-known-v-4 : tie.Need-enum-known-v-4
-enum-known-v-4 c = search needs
-
-enum-known-f-4 : tie.Need-enum-known-f-4
-enum-known-f-4 c = search needs
+unfolding tpmsAttest
+returns-3 c = fails-buffer (past-number (past-number (begin _ _ _) (told uint32Answer (c .before .before .before .before .before .before .before .before .before .v .given .1) (c .before .before .before .before .before .before .before .before .before .before .before .magic-number .ensures))) (told tpmStAnswer (c .before .before .before .before .before .v2 .given .1) (c .before .before .before .before .before .before .before .unmarshal .ensures))) (told spanAnswer (c .before .f3 .given .1) (c .before .before .before .buffer .ensures))
 
 returns-4 : tie.Need-returns-4
-unfolding attest
-returns-4 c = fails-buffer (past-buffer (past-number (past-number (begin _ _ _) (told uint32Answer (c .before .before .before .before .before .before .before .before .before .before .before .before .before .v .given .1) (c .before .before .before .before .before .before .before .before .before .before .before .before .before .before .before .magic-number .ensures))) (told attestationAnswer (c .before .before .before .before .before .before .before .before .before .v2 .given .1) (c .before .before .before .before .before .before .before .before .before .before .before .unmarshal .ensures))) (told spanAnswer (c .before .before .before .before .before .v3 .given .1) (c .before .before .before .before .before .before .before .buffer .ensures))) (told spanAnswer (c .before .f4 .given .1) (c .before .before .before .buffer2 .ensures))
-
-attested-requires : tie.Need-attested-requires
-attested-requires c κs = search needs
+unfolding tpmsAttest
+returns-4 c = fails-buffer (past-buffer (past-number (past-number (begin _ _ _) (told uint32Answer (c .before .before .before .before .before .before .before .before .before .before .before .before .before .v .given .1) (c .before .before .before .before .before .before .before .before .before .before .before .before .before .before .before .magic-number .ensures))) (told tpmStAnswer (c .before .before .before .before .before .before .before .before .before .v2 .given .1) (c .before .before .before .before .before .before .before .before .before .before .before .unmarshal .ensures))) (told spanAnswer (c .before .before .before .before .before .v3 .given .1) (c .before .before .before .before .before .before .before .buffer .ensures))) (told spanAnswer (c .before .f4 .given .1) (c .before .before .before .buffer2 .ensures))
 
 returns-5 : tie.Need-returns-5
-unfolding attest
-returns-5 c = c .attested .ensures ∙ sym ((past-buffer (past-buffer (past-number (past-number (begin _ _ _) (told uint32Answer (c .before .before .before .before .before .before .before .before .before .before .before .before .before .before .v .given .1) (c .before .before .before .before .before .before .before .before .before .before .before .before .before .before .before .before .magic-number .ensures))) (told attestationAnswer (c .before .before .before .before .before .before .before .before .before .before .v2 .given .1) (c .before .before .before .before .before .before .before .before .before .before .before .before .unmarshal .ensures))) (told spanAnswer (c .before .before .before .before .before .before .v3 .given .1) (c .before .before .before .before .before .before .before .before .buffer .ensures))) (told spanAnswer (c .before .before .v4 .given .1) (c .before .before .before .before .buffer2 .ensures))) .same)
+unfolding tpmsAttest
+returns-5 c = c .attested .ensures ∙ sym ((past-buffer (past-buffer (past-number (past-number (begin _ _ _) (told uint32Answer (c .before .before .before .before .before .before .before .before .before .before .before .before .before .before .v .given .1) (c .before .before .before .before .before .before .before .before .before .before .before .before .before .before .before .before .magic-number .ensures))) (told tpmStAnswer (c .before .before .before .before .before .before .before .before .before .before .v2 .given .1) (c .before .before .before .before .before .before .before .before .before .before .before .before .unmarshal .ensures))) (told spanAnswer (c .before .before .before .before .before .before .v3 .given .1) (c .before .before .before .before .before .before .before .before .buffer .ensures))) (told spanAnswer (c .before .before .v4 .given .1) (c .before .before .before .before .buffer2 .ensures))) .same)
 
 pub unmarshal-spec : {M : Type 1} → statement M
-unmarshal-spec =
-    tie.close
-    (tie.spec
-    magic-number-requires
-    enum-known-v
-    enum-known-f
-    returns
-    unmarshal-requires
-    enum-known-v-2
-    enum-known-f-2
-    returns-2
-    buffer-requires
-    enum-known-v-3
-    enum-known-f-3
-    returns-3
-    buffer-requires-2
-    enum-known-v-4
-    enum-known-f-4
-    returns-4
-    attested-requires
-    returns-5)
+unmarshal-spec = tie.close (tie.spec
+    (search needs) (search needs) (search needs) returns (search needs) (search needs) (search needs) returns-2 (search needs)
+    (search needs) (search needs) returns-3 (search needs) (search needs) (search needs) returns-4 (search needs) returns-5)

@@ -1,86 +1,33 @@
 -- Field by field, what is left to read is the rest of the layout. Assumes nothing.
 use borrow.Author.Needs.{needs}
 use Rattle.wire.proofs.Rest.{told, begin, done, fails-number, fails-then, past-number, past-then}
-use Rattle.kinds.specs.Kinds.{symDef, asymScheme, rsaParms}
+use Rattle.kinds.specs.Kinds.{tpmtSymDef, tpmtAsymScheme, tpmsRsaParms}
 use Rattle.kinds.specs.Answers.{uint16Answer, uint32Answer}
-use Rattle.schemes.specs.Answers.{symDefAnswer, rsaSchemeAnswer}
+use Rattle.schemes.specs.Answers.{tpmtSymDefAnswer, tpmtRsaSchemeAnswer}
 use Rattle.keys.proofs.tpms.TpmsRsaParms.unmarshal.Statement.{statement}
 use Rattle.keys.proofs.tpms.TpmsRsaParms.unmarshal.Tie as tie
 
-unmarshal-requires : tie.Need-unmarshal-requires
-unmarshal-requires c κs = search needs
-
-enum-known-v : tie.Need-enum-known-v
-enum-known-v c = search needs
-
-enum-known-f : tie.Need-enum-known-f
-enum-known-f c = search needs
-
 returns : tie.Need-returns
-unfolding rsaParms
-returns c = fails-then symDef _ (begin _ _ _) (told symDefAnswer (c .before .f .given .1) (c .before .before .before .unmarshal .ensures))
-
-unmarshal-requires-2 : tie.Need-unmarshal-requires-2
-unmarshal-requires-2 c κs = search needs
-
-enum-known-v-2 : tie.Need-enum-known-v-2
-enum-known-v-2 c = search needs
-
-enum-known-f-2 : tie.Need-enum-known-f-2
-enum-known-f-2 c = search needs
+unfolding tpmsRsaParms
+returns c = fails-then tpmtSymDef _ (begin _ _ _) (told tpmtSymDefAnswer (c .before .f .given .1) (c .before .before .before .unmarshal .ensures))
 
 returns-2 : tie.Need-returns-2
-unfolding rsaParms
-returns-2 c = fails-then asymScheme _ (past-then symDef (begin _ _ _) (told symDefAnswer (c .before .before .before .before .before .v .given .1) (c .before .before .before .before .before .before .before .unmarshal .ensures))) (told rsaSchemeAnswer (c .before .f2 .given .1) (c .before .before .before .unmarshal2 .ensures))
-
-uint16-requires : tie.Need-uint16-requires
-uint16-requires c κs = search needs
-
-enum-known-v-3 : tie.Need-enum-known-v-3
-enum-known-v-3 c = search needs
-
-enum-known-f-3 : tie.Need-enum-known-f-3
-enum-known-f-3 c = search needs
+unfolding tpmsRsaParms
+returns-2 c = fails-then tpmtAsymScheme _ (past-then tpmtSymDef (begin _ _ _) (told tpmtSymDefAnswer (c .before .before .before .before .before .v .given .1) (c .before .before .before .before .before .before .before .unmarshal .ensures))) (told tpmtRsaSchemeAnswer (c .before .f2 .given .1) (c .before .before .before .unmarshal2 .ensures))
 
 returns-3 : tie.Need-returns-3
-unfolding rsaParms
-returns-3 c = fails-number (past-then asymScheme (past-then symDef (begin _ _ _) (told symDefAnswer (c .before .before .before .before .before .before .before .before .before .v .given .1) (c .before .before .before .before .before .before .before .before .before .before .before .unmarshal .ensures))) (told rsaSchemeAnswer (c .before .before .before .before .before .v2 .given .1) (c .before .before .before .before .before .before .before .unmarshal2 .ensures))) (told uint16Answer (c .before .f3 .given .1) (c .before .before .before .uint16 .ensures))
-
-uint32-requires : tie.Need-uint32-requires
-uint32-requires c κs = search needs
-
-enum-known-v-4 : tie.Need-enum-known-v-4
-enum-known-v-4 c = search needs
-
-enum-known-f-4 : tie.Need-enum-known-f-4
-enum-known-f-4 c = search needs
+unfolding tpmsRsaParms
+returns-3 c = fails-number (past-then tpmtAsymScheme (past-then tpmtSymDef (begin _ _ _) (told tpmtSymDefAnswer (c .before .before .before .before .before .before .before .before .before .v .given .1) (c .before .before .before .before .before .before .before .before .before .before .before .unmarshal .ensures))) (told tpmtRsaSchemeAnswer (c .before .before .before .before .before .v2 .given .1) (c .before .before .before .before .before .before .before .unmarshal2 .ensures))) (told uint16Answer (c .before .f3 .given .1) (c .before .before .before .uint16 .ensures))
 
 returns-4 : tie.Need-returns-4
-unfolding rsaParms
-returns-4 c = fails-number (past-number (past-then asymScheme (past-then symDef (begin _ _ _) (told symDefAnswer (c .before .before .before .before .before .before .before .before .before .before .before .before .before .v .given .1) (c .before .before .before .before .before .before .before .before .before .before .before .before .before .before .before .unmarshal .ensures))) (told rsaSchemeAnswer (c .before .before .before .before .before .before .before .before .before .v2 .given .1) (c .before .before .before .before .before .before .before .before .before .before .before .unmarshal2 .ensures))) (told uint16Answer (c .before .before .before .before .before .v3 .given .1) (c .before .before .before .before .before .before .before .uint16 .ensures))) (told uint32Answer (c .before .f4 .given .1) (c .before .before .before .uint32 .ensures))
+unfolding tpmsRsaParms
+returns-4 c = fails-number (past-number (past-then tpmtAsymScheme (past-then tpmtSymDef (begin _ _ _) (told tpmtSymDefAnswer (c .before .before .before .before .before .before .before .before .before .before .before .before .before .v .given .1) (c .before .before .before .before .before .before .before .before .before .before .before .before .before .before .before .unmarshal .ensures))) (told tpmtRsaSchemeAnswer (c .before .before .before .before .before .before .before .before .before .v2 .given .1) (c .before .before .before .before .before .before .before .before .before .before .before .unmarshal2 .ensures))) (told uint16Answer (c .before .before .before .before .before .v3 .given .1) (c .before .before .before .before .before .before .before .uint16 .ensures))) (told uint32Answer (c .before .f4 .given .1) (c .before .before .before .uint32 .ensures))
 
 returns-5 : tie.Need-returns-5
-unfolding rsaParms
-returns-5 c = done (past-number (past-number (past-then asymScheme (past-then symDef (begin _ _ _) (told symDefAnswer (c .before .before .before .before .before .before .before .before .before .before .before .before .before .v .given .1) (c .before .before .before .before .before .before .before .before .before .before .before .before .before .before .before .unmarshal .ensures))) (told rsaSchemeAnswer (c .before .before .before .before .before .before .before .before .before .v2 .given .1) (c .before .before .before .before .before .before .before .before .before .before .before .unmarshal2 .ensures))) (told uint16Answer (c .before .before .before .before .before .v3 .given .1) (c .before .before .before .before .before .before .before .uint16 .ensures))) (told uint32Answer (c .before .v4 .given .1) (c .before .before .before .uint32 .ensures)))
+unfolding tpmsRsaParms
+returns-5 c = done (past-number (past-number (past-then tpmtAsymScheme (past-then tpmtSymDef (begin _ _ _) (told tpmtSymDefAnswer (c .before .before .before .before .before .before .before .before .before .before .before .before .before .v .given .1) (c .before .before .before .before .before .before .before .before .before .before .before .before .before .before .before .unmarshal .ensures))) (told tpmtRsaSchemeAnswer (c .before .before .before .before .before .before .before .before .before .v2 .given .1) (c .before .before .before .before .before .before .before .before .before .before .before .unmarshal2 .ensures))) (told uint16Answer (c .before .before .before .before .before .v3 .given .1) (c .before .before .before .before .before .before .before .uint16 .ensures))) (told uint32Answer (c .before .v4 .given .1) (c .before .before .before .uint32 .ensures)))
 
 pub unmarshal-spec : {M : Type 1} → statement M
-unmarshal-spec =
-    tie.close
-    (tie.spec
-    unmarshal-requires
-    enum-known-v
-    enum-known-f
-    returns
-    unmarshal-requires-2
-    enum-known-v-2
-    enum-known-f-2
-    returns-2
-    uint16-requires
-    enum-known-v-3
-    enum-known-f-3
-    returns-3
-    uint32-requires
-    enum-known-v-4
-    enum-known-f-4
-    returns-4
-    returns-5)
+unmarshal-spec = tie.close (tie.spec
+    (search needs) (search needs) (search needs) returns (search needs) (search needs) (search needs) returns-2 (search needs)
+    (search needs) (search needs) returns-3 (search needs) (search needs) (search needs) returns-4 returns-5)

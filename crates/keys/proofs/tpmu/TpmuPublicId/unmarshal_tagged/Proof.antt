@@ -7,119 +7,54 @@ use Rattle.kinds.proofs.Choices.{none-unmatched}
 use Rattle.wire.proofs.Leaves.{read-stop}
 use Rattle.kinds.specs.Codes.{keyedHash, symCipher, rsa, ecc, null}
 use Rattle.kinds.specs.Tables.{typeRows, typeArm}
-use Rattle.kinds.specs.Kinds.{uniqueBody, uniqueBy}
+use Rattle.kinds.specs.Kinds.{tpmuPublicIdBody, tpmuPublicId}
 use Rattle.wire.specs.Answers.{spanAnswer}
-use Rattle.keys.specs.Answers.{eccPointAnswer}
+use Rattle.keys.specs.Answers.{tpmsEccPointAnswer}
 use Rattle.keys.proofs.tpmu.TpmuPublicId.unmarshal_tagged.Statement.{statement}
 use Rattle.keys.proofs.tpmu.TpmuPublicId.unmarshal_tagged.Tie as tie
 
-buffer-requires : tie.Need-buffer-requires
-buffer-requires c κs = search needs
-
-enum-known-x : tie.Need-enum-known-x
-enum-known-x c = search needs
-
-enum-known-f : tie.Need-enum-known-f
-enum-known-f c = search needs
-
-buffer-requires-2 : tie.Need-buffer-requires-2
-buffer-requires-2 c κs = search needs
-
-enum-known-x-2 : tie.Need-enum-known-x-2
-enum-known-x-2 c = search needs
-
-enum-known-f-2 : tie.Need-enum-known-f-2
-enum-known-f-2 c = search needs
-
-buffer-requires-3 : tie.Need-buffer-requires-3
-buffer-requires-3 c κs = search needs
-
-enum-known-x-3 : tie.Need-enum-known-x-3
-enum-known-x-3 c = search needs
-
-enum-known-f-3 : tie.Need-enum-known-f-3
-enum-known-f-3 c = search needs
-
-unmarshal-requires : tie.Need-unmarshal-requires
-unmarshal-requires c κs = search needs
-
-enum-known-x-4 : tie.Need-enum-known-x-4
-enum-known-x-4 c = search needs
-
-enum-known-f-4 : tie.Need-enum-known-f-4
-enum-known-f-4 c = search needs
-
-wide-requires : tie.Need-wide-requires
-wide-requires c κs = search needs
-
-no-arm-requires : tie.Need-no-arm-requires
-no-arm-requires c κs = search needs
-
 returns : tie.Need-returns
-unfolding uniqueBy typeArm
-returns c = arm-found uniqueBody _ _ _ (sym (ap typeArm (c .before .before .before .before .match .keys1))) (told spanAnswer (c .before .x .given .1) (c .before .before .before .buffer .ensures))
+unfolding tpmuPublicId typeArm
+returns c = arm-found tpmuPublicIdBody _ _ _ (sym (ap typeArm (c .before .before .before .before .match .keys1))) (told spanAnswer (c .before .x .given .1) (c .before .before .before .buffer .ensures))
 
 returns-2 : tie.Need-returns-2
-unfolding uniqueBy typeArm
-returns-2 c = arm-refused uniqueBody _ _ _ (sym (ap typeArm (c .before .before .before .before .match .keys1))) (told spanAnswer (c .before .f .given .1) (c .before .before .before .buffer .ensures))
+unfolding tpmuPublicId typeArm
+returns-2 c = arm-refused tpmuPublicIdBody _ _ _ (sym (ap typeArm (c .before .before .before .before .match .keys1))) (told spanAnswer (c .before .f .given .1) (c .before .before .before .buffer .ensures))
 
 returns-3 : tie.Need-returns-3
-unfolding uniqueBy typeArm
-returns-3 c = arm-found uniqueBody _ _ _ (sym (ap typeArm (c .before .before .before .before .match .keys2))) (told spanAnswer (c .before .x2 .given .1) (c .before .before .before .buffer2 .ensures))
+unfolding tpmuPublicId typeArm
+returns-3 c = arm-found tpmuPublicIdBody _ _ _ (sym (ap typeArm (c .before .before .before .before .match .keys2))) (told spanAnswer (c .before .x2 .given .1) (c .before .before .before .buffer2 .ensures))
 
 returns-4 : tie.Need-returns-4
-unfolding uniqueBy typeArm
-returns-4 c = arm-refused uniqueBody _ _ _ (sym (ap typeArm (c .before .before .before .before .match .keys2))) (told spanAnswer (c .before .f2 .given .1) (c .before .before .before .buffer2 .ensures))
+unfolding tpmuPublicId typeArm
+returns-4 c = arm-refused tpmuPublicIdBody _ _ _ (sym (ap typeArm (c .before .before .before .before .match .keys2))) (told spanAnswer (c .before .f2 .given .1) (c .before .before .before .buffer2 .ensures))
 
 returns-5 : tie.Need-returns-5
-unfolding uniqueBy typeArm
-returns-5 c = arm-found uniqueBody _ _ _ (sym (ap typeArm (c .before .before .before .before .match .keys3))) (told spanAnswer (c .before .x3 .given .1) (c .before .before .before .buffer3 .ensures))
+unfolding tpmuPublicId typeArm
+returns-5 c = arm-found tpmuPublicIdBody _ _ _ (sym (ap typeArm (c .before .before .before .before .match .keys3))) (told spanAnswer (c .before .x3 .given .1) (c .before .before .before .buffer3 .ensures))
 
 returns-6 : tie.Need-returns-6
-unfolding uniqueBy typeArm
-returns-6 c = arm-refused uniqueBody _ _ _ (sym (ap typeArm (c .before .before .before .before .match .keys3))) (told spanAnswer (c .before .f3 .given .1) (c .before .before .before .buffer3 .ensures))
+unfolding tpmuPublicId typeArm
+returns-6 c = arm-refused tpmuPublicIdBody _ _ _ (sym (ap typeArm (c .before .before .before .before .match .keys3))) (told spanAnswer (c .before .f3 .given .1) (c .before .before .before .buffer3 .ensures))
 
 returns-7 : tie.Need-returns-7
-unfolding uniqueBy typeArm
-returns-7 c = arm-found uniqueBody _ _ _ (sym (ap typeArm (c .before .before .before .before .match .keys4))) (told eccPointAnswer (c .before .x4 .given .1) (c .before .before .before .unmarshal .ensures))
+unfolding tpmuPublicId typeArm
+returns-7 c = arm-found tpmuPublicIdBody _ _ _ (sym (ap typeArm (c .before .before .before .before .match .keys4))) (told tpmsEccPointAnswer (c .before .x4 .given .1) (c .before .before .before .unmarshal .ensures))
 
 returns-8 : tie.Need-returns-8
-unfolding uniqueBy typeArm
-returns-8 c = arm-refused uniqueBody _ _ _ (sym (ap typeArm (c .before .before .before .before .match .keys4))) (told eccPointAnswer (c .before .f4 .given .1) (c .before .before .before .unmarshal .ensures))
+unfolding tpmuPublicId typeArm
+returns-8 c = arm-refused tpmuPublicIdBody _ _ _ (sym (ap typeArm (c .before .before .before .before .match .keys4))) (told tpmsEccPointAnswer (c .before .f4 .given .1) (c .before .before .before .unmarshal .ensures))
 
 returns-9 : tie.Need-returns-9
-unfolding uniqueBy typeArm
-returns-9 c = arm-found uniqueBody _ _ _ (sym (ap typeArm (c .match .keys5))) (sym (read-stop _ _))
+unfolding tpmuPublicId typeArm
+returns-9 c = arm-found tpmuPublicIdBody _ _ _ (sym (ap typeArm (c .match .keys5))) (sym (read-stop _ _))
 
 returns-10 : tie.Need-returns-10
-unfolding uniqueBy typeArm
-returns-10 c = rw (c .no-arm .ensures, c .before .wide .ensures) (arm-missing uniqueBody _ _ _ (none-unmatched typeRows ((null ∷ []) ∷ (ecc ∷ []) ∷ (rsa ∷ []) ∷ (symCipher ∷ []) ∷ (keyedHash ∷ []) ∷ []) refl _ (c .before .before .match .rest)))
+unfolding tpmuPublicId typeArm
+returns-10 c = rw (c .no-arm .ensures, c .before .wide .ensures) (arm-missing tpmuPublicIdBody _ _ _ (none-unmatched typeRows ((null ∷ []) ∷ (ecc ∷ []) ∷ (rsa ∷ []) ∷ (symCipher ∷ []) ∷ (keyedHash ∷ []) ∷ []) refl _ (c .before .before .match .rest)))
 
 pub unmarshal-tagged-spec : {M : Type 1} → statement M
-unmarshal-tagged-spec =
-    tie.close
-    (tie.spec
-    buffer-requires
-    enum-known-x
-    enum-known-f
-    buffer-requires-2
-    enum-known-x-2
-    enum-known-f-2
-    buffer-requires-3
-    enum-known-x-3
-    enum-known-f-3
-    unmarshal-requires
-    enum-known-x-4
-    enum-known-f-4
-    wide-requires
-    no-arm-requires
-    returns
-    returns-2
-    returns-3
-    returns-4
-    returns-5
-    returns-6
-    returns-7
-    returns-8
-    returns-9
-    returns-10)
+unmarshal-tagged-spec = tie.close (tie.spec
+    (search needs) (search needs) (search needs) (search needs) (search needs) (search needs) (search needs) (search needs) (search needs)
+    (search needs) (search needs) (search needs) (search needs) (search needs) returns returns-2 returns-3 returns-4 returns-5 returns-6
+    returns-7 returns-8 returns-9 returns-10)

@@ -3,57 +3,6 @@ use borrow.Author.Needs.{needs}
 use Rattle.keys.proofs.tpmu.TpmuSignature.matches_tag.Statement.{statement}
 use Rattle.keys.proofs.tpmu.TpmuSignature.matches_tag.Tie as tie
 
-signature-arm-requires : tie.Need-signature-arm-requires
-signature-arm-requires c κs = search needs
-
-enum-told : tie.Need-enum-told
-enum-told c = search needs
-
-is-requires : tie.Need-is-requires
-is-requires c κs = search needs
-
-enum-told-2 : tie.Need-enum-told-2
-enum-told-2 c = search needs
-
-is-requires-2 : tie.Need-is-requires-2
-is-requires-2 c κs = search needs
-
-enum-told-3 : tie.Need-enum-told-3
-enum-told-3 c = search needs
-
-is-requires-3 : tie.Need-is-requires-3
-is-requires-3 c κs = search needs
-
-enum-told-4 : tie.Need-enum-told-4
-enum-told-4 c = search needs
-
-is-requires-4 : tie.Need-is-requires-4
-is-requires-4 c κs = search needs
-
-enum-told-5 : tie.Need-enum-told-5
-enum-told-5 c = search needs
-
-is-requires-5 : tie.Need-is-requires-5
-is-requires-5 c κs = search needs
-
-enum-told-6 : tie.Need-enum-told-6
-enum-told-6 c = search needs
-
-is-requires-6 : tie.Need-is-requires-6
-is-requires-6 c κs = search needs
-
-enum-told-7 : tie.Need-enum-told-7
-enum-told-7 c = search needs
-
-is-requires-7 : tie.Need-is-requires-7
-is-requires-7 c κs = search needs
-
-enum-told-8 : tie.Need-enum-told-8
-enum-told-8 c = search needs
-
-is-requires-8 : tie.Need-is-requires-8
-is-requires-8 c κs = search needs
-
 returns : tie.Need-returns
 returns c = rw (c .before .enum-told .given .1, ← c .before .before .before .signature-arm .ensures) (c .is .ensures)
 
@@ -79,31 +28,7 @@ returns-8 : tie.Need-returns-8
 returns-8 c = rw (c .before .enum-told8 .given .1, ← c .before .before .before .signature-arm .ensures) (c .is8 .ensures)
 
 pub matches-tag-spec : {M : Type 1} → statement M
-matches-tag-spec =
-    tie.close
-    (tie.spec
-    signature-arm-requires
-    enum-told
-    is-requires
-    enum-told-2
-    is-requires-2
-    enum-told-3
-    is-requires-3
-    enum-told-4
-    is-requires-4
-    enum-told-5
-    is-requires-5
-    enum-told-6
-    is-requires-6
-    enum-told-7
-    is-requires-7
-    enum-told-8
-    is-requires-8
-    returns
-    returns-2
-    returns-3
-    returns-4
-    returns-5
-    returns-6
-    returns-7
-    returns-8)
+matches-tag-spec = tie.close (tie.spec
+    (search needs) (search needs) (search needs) (search needs) (search needs) (search needs) (search needs) (search needs) (search needs)
+    (search needs) (search needs) (search needs) (search needs) (search needs) (search needs) (search needs) (search needs) returns
+    returns-2 returns-3 returns-4 returns-5 returns-6 returns-7 returns-8)

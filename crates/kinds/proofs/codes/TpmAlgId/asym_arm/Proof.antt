@@ -6,7 +6,7 @@ use Prim.Native.Nat.{ℕ}
 use native.Mathlib.Omega.{arith}
 use Rattle.wire.specs.declared.choice.Choice.the-variants.{The}
 use Rattle.kinds.specs.Codes.{null, rsaes, rsassa, rsapss, ecmqv}
-use Rattle.kinds.specs.Tables.{asymRows, asymArm, empty, hash}
+use Rattle.kinds.specs.Tables.{tpmuAsymSchemeRows, tpmuAsymSchemeArm, empty, hash}
 use Rattle.kinds.proofs.Choices.{chosen-among, chosen-from, none-outside}
 use Rattle.kinds.proofs.codes.TpmAlgId.asym_arm.Statement.{statement}
 use Rattle.kinds.proofs.codes.TpmAlgId.asym_arm.Tie as tie
@@ -18,27 +18,27 @@ abbrev single : List ℕ
 single = rsassa ∷ []
 
 returns : tie.Need-returns
-unfolding asymArm
-returns c = chosen-among (λ v. The empty) asymRows empties refl _ (c .match .keys1)
+unfolding tpmuAsymSchemeArm
+returns c = chosen-among (λ v. The empty) tpmuAsymSchemeRows empties refl _ (c .match .keys1)
 
 returns-2 : tie.Need-returns-2
-unfolding asymArm
-returns-2 c = none-outside asymRows (single ∷ empties ∷ []) rsapss ecmqv refl _ (c .before .match .rest) (λ h. omega arith)
+unfolding tpmuAsymSchemeArm
+returns-2 c = none-outside tpmuAsymSchemeRows (single ∷ empties ∷ []) rsapss ecmqv refl _ (c .before .match .rest) (λ h. omega arith)
 
 returns-3 : tie.Need-returns-3
-unfolding asymArm
-returns-3 c = none-outside asymRows (single ∷ empties ∷ []) rsapss ecmqv refl _ (c .before .before .match .rest) (λ h. omega arith)
+unfolding tpmuAsymSchemeArm
+returns-3 c = none-outside tpmuAsymSchemeRows (single ∷ empties ∷ []) rsapss ecmqv refl _ (c .before .before .match .rest) (λ h. omega arith)
 
 returns-4 : tie.Need-returns-4
-unfolding asymArm
-returns-4 c = chosen-among (λ v. The hash) asymRows single refl _ (c .match .keys2)
+unfolding tpmuAsymSchemeArm
+returns-4 c = chosen-among (λ v. The hash) tpmuAsymSchemeRows single refl _ (c .match .keys2)
 
 returns-5 : tie.Need-returns-5
-unfolding asymArm
+unfolding tpmuAsymSchemeArm
 returns-5 c =
     let v = c .before .before .before .args .self .0 in
     let other : v ≡ rsaes → ⊥ = λ e. c .before .before .match .rest .0 .1 (inr e) in
-    chosen-from (λ v. The hash) asymRows 8 rsapss refl v (omega arith) (omega arith)
+    chosen-from (λ v. The hash) tpmuAsymSchemeRows 8 rsapss refl v (omega arith) (omega arith)
 
 pub asym-arm-spec : {M : Type 1} → statement M
 asym-arm-spec = tie.close (tie.spec returns returns-2 returns-3 returns-4 returns-5)

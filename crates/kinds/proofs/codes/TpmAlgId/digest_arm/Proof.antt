@@ -9,22 +9,10 @@ use Rattle.kinds.proofs.codes.TpmAlgId.digest_arm.Statement.{statement}
 use Rattle.kinds.proofs.codes.TpmAlgId.digest_arm.Tie as tie
 use Rattle.kinds.proofs.Choices.{digest-short}
 
-digest-len-requires : tie.Need-digest-len-requires
-digest-len-requires c κs = search needs
-
-enum-known-n : tie.Need-enum-known-n
-enum-known-n c = search needs
-
 add-t5 : tie.Need-add-t5
 add-t5 c =
     let short = digest-short (c .before .before .before .before .args .self .0) (sym (c .before .before .before .digest-len .ensures) ∙ ap digestChoice (c .before .n .given .1)) in
     omega (arith, short)
-
-enum-told : tie.Need-enum-told
-enum-told c = search needs
-
-enum-told-2 : tie.Need-enum-told-2
-enum-told-2 c = search needs
 
 returns : tie.Need-returns
 returns c = ap The (add-one _) ∙ ap digestChoice (sym (c .before .n .given .1)) ∙ c .before .before .before .digest-len .ensures
@@ -36,4 +24,4 @@ returns-3 : tie.Need-returns-3
 returns-3 c = ap digestChoice (sym (c .enum-told2 .given .1)) ∙ c .before .before .digest-len .ensures
 
 pub digest-arm-spec : {M : Type 1} → statement M
-digest-arm-spec = tie.close (tie.spec digest-len-requires enum-known-n add-t5 enum-told enum-told-2 returns returns-2 returns-3)
+digest-arm-spec = tie.close (tie.spec (search needs) (search needs) add-t5 (search needs) (search needs) returns returns-2 returns-3)

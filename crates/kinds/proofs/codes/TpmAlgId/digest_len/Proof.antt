@@ -4,7 +4,7 @@ use mathlib.Core.Path.{refl}
 use Prim.Native.Nat.{ℕ}
 use Rattle.wire.specs.declared.choice.Choice.the-variants.{The}
 use Rattle.kinds.specs.Codes.{sha1, shake256-192, sha256, sm3-256, sha3-256, shake256-256, sha384, sha3-384, sha512, sha3-512, shake256-512, null}
-use Rattle.kinds.specs.Tables.{digestRows, digestArm, digestOf, empty}
+use Rattle.kinds.specs.Tables.{tpmuHaRows, tpmuHaArm, digestOf, empty}
 use Rattle.kinds.proofs.Choices.{chosen-among, none-unmatched}
 use Rattle.kinds.proofs.codes.TpmAlgId.digest_len.Statement.{statement}
 use Rattle.kinds.proofs.codes.TpmAlgId.digest_len.Tie as tie
@@ -25,32 +25,32 @@ abbrev of64 : List ℕ
 of64 = sha512 ∷ sha3-512 ∷ shake256-512 ∷ []
 
 returns : tie.Need-returns
-unfolding digestArm
-returns c = chosen-among (λ v. The (digestOf 20)) digestRows of20 refl _ (c .match .keys1)
+unfolding tpmuHaArm
+returns c = chosen-among (λ v. The (digestOf 20)) tpmuHaRows of20 refl _ (c .match .keys1)
 
 returns-2 : tie.Need-returns-2
-unfolding digestArm
-returns-2 c = chosen-among (λ v. The (digestOf 24)) digestRows of24 refl _ (c .match .keys2)
+unfolding tpmuHaArm
+returns-2 c = chosen-among (λ v. The (digestOf 24)) tpmuHaRows of24 refl _ (c .match .keys2)
 
 returns-3 : tie.Need-returns-3
-unfolding digestArm
-returns-3 c = chosen-among (λ v. The (digestOf 32)) digestRows of32 refl _ (c .match .keys3)
+unfolding tpmuHaArm
+returns-3 c = chosen-among (λ v. The (digestOf 32)) tpmuHaRows of32 refl _ (c .match .keys3)
 
 returns-4 : tie.Need-returns-4
-unfolding digestArm
-returns-4 c = chosen-among (λ v. The (digestOf 48)) digestRows of48 refl _ (c .match .keys4)
+unfolding tpmuHaArm
+returns-4 c = chosen-among (λ v. The (digestOf 48)) tpmuHaRows of48 refl _ (c .match .keys4)
 
 returns-5 : tie.Need-returns-5
-unfolding digestArm
-returns-5 c = chosen-among (λ v. The (digestOf 64)) digestRows of64 refl _ (c .match .keys5)
+unfolding tpmuHaArm
+returns-5 c = chosen-among (λ v. The (digestOf 64)) tpmuHaRows of64 refl _ (c .match .keys5)
 
 returns-6 : tie.Need-returns-6
-unfolding digestArm
-returns-6 c = chosen-among (λ v. The empty) digestRows (null ∷ []) refl _ (c .match .keys6)
+unfolding tpmuHaArm
+returns-6 c = chosen-among (λ v. The empty) tpmuHaRows (null ∷ []) refl _ (c .match .keys6)
 
 returns-7 : tie.Need-returns-7
-unfolding digestArm
-returns-7 c = none-unmatched digestRows ((null ∷ []) ∷ of64 ∷ of48 ∷ of32 ∷ of24 ∷ of20 ∷ []) refl _ (c .match .rest)
+unfolding tpmuHaArm
+returns-7 c = none-unmatched tpmuHaRows ((null ∷ []) ∷ of64 ∷ of48 ∷ of32 ∷ of24 ∷ of20 ∷ []) refl _ (c .match .rest)
 
 pub digest-len-spec : {M : Type 1} → statement M
 digest-len-spec = tie.close (tie.spec returns returns-2 returns-3 returns-4 returns-5 returns-6 returns-7)

@@ -5,7 +5,7 @@ use Prim.Native.Nat.{ℕ}
 use native.Mathlib.Omega.{arith}
 use Rattle.wire.specs.declared.choice.Choice.the-variants.{The}
 use Rattle.kinds.specs.Codes.{mgf1, null, kdf1-sp800-56a, kdf1-sp800-108}
-use Rattle.kinds.specs.Tables.{kdfRows, kdfArm}
+use Rattle.kinds.specs.Tables.{tpmuKdfSchemeRows, tpmuKdfSchemeArm}
 use Rattle.kinds.proofs.Choices.{chosen-among, chosen-from, none-outside}
 use Rattle.kinds.proofs.codes.TpmAlgId.kdf_arm.Statement.{statement}
 use Rattle.kinds.proofs.codes.TpmAlgId.kdf_arm.Tie as tie
@@ -14,20 +14,20 @@ abbrev single : List ℕ
 single = mgf1 ∷ null ∷ []
 
 returns : tie.Need-returns
-unfolding kdfArm
-returns c = none-outside kdfRows (single ∷ []) kdf1-sp800-56a kdf1-sp800-108 refl _ (c .before .match .rest) (λ h. omega arith)
+unfolding tpmuKdfSchemeArm
+returns c = none-outside tpmuKdfSchemeRows (single ∷ []) kdf1-sp800-56a kdf1-sp800-108 refl _ (c .before .match .rest) (λ h. omega arith)
 
 returns-2 : tie.Need-returns-2
-unfolding kdfArm
-returns-2 c = none-outside kdfRows (single ∷ []) kdf1-sp800-56a kdf1-sp800-108 refl _ (c .before .before .match .rest) (λ h. omega arith)
+unfolding tpmuKdfSchemeArm
+returns-2 c = none-outside tpmuKdfSchemeRows (single ∷ []) kdf1-sp800-56a kdf1-sp800-108 refl _ (c .before .before .match .rest) (λ h. omega arith)
 
 returns-3 : tie.Need-returns-3
-unfolding kdfArm
-returns-3 c = chosen-among The kdfRows single refl _ (c .match .keys1)
+unfolding tpmuKdfSchemeArm
+returns-3 c = chosen-among The tpmuKdfSchemeRows single refl _ (c .match .keys1)
 
 returns-4 : tie.Need-returns-4
-unfolding kdfArm
-returns-4 c = chosen-from The kdfRows 3 kdf1-sp800-56a refl _ (omega arith) (omega arith)
+unfolding tpmuKdfSchemeArm
+returns-4 c = chosen-from The tpmuKdfSchemeRows 3 kdf1-sp800-56a refl _ (omega arith) (omega arith)
 
 pub kdf-arm-spec : {M : Type 1} → statement M
 kdf-arm-spec = tie.close (tie.spec returns returns-2 returns-3 returns-4)

@@ -4,7 +4,7 @@ use mathlib.Core.Path.{refl}
 use Prim.Native.Nat.{ℕ}
 use Rattle.wire.specs.declared.choice.Choice.the-variants.{The}
 use Rattle.kinds.specs.Codes.{hmac, xor, null}
-use Rattle.kinds.specs.Tables.{keyedhashRows, keyedhashArm}
+use Rattle.kinds.specs.Tables.{tpmuKeyedhashSchemeRows, tpmuKeyedhashSchemeArm}
 use Rattle.kinds.proofs.Choices.{chosen-among, none-unmatched}
 use Rattle.kinds.proofs.codes.TpmAlgId.keyedhash_arm.Statement.{statement}
 use Rattle.kinds.proofs.codes.TpmAlgId.keyedhash_arm.Tie as tie
@@ -13,12 +13,12 @@ abbrev pattern : List ℕ
 pattern = hmac ∷ xor ∷ null ∷ []
 
 returns : tie.Need-returns
-unfolding keyedhashArm
-returns c = chosen-among The keyedhashRows pattern refl _ (c .match .keys1)
+unfolding tpmuKeyedhashSchemeArm
+returns c = chosen-among The tpmuKeyedhashSchemeRows pattern refl _ (c .match .keys1)
 
 returns-2 : tie.Need-returns-2
-unfolding keyedhashArm
-returns-2 c = none-unmatched keyedhashRows (pattern ∷ []) refl _ (c .match .rest)
+unfolding tpmuKeyedhashSchemeArm
+returns-2 c = none-unmatched tpmuKeyedhashSchemeRows (pattern ∷ []) refl _ (c .match .rest)
 
 pub keyedhash-arm-spec : {M : Type 1} → statement M
 keyedhash-arm-spec = tie.close (tie.spec returns returns-2)

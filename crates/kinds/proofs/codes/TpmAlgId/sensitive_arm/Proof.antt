@@ -4,7 +4,7 @@ use mathlib.Core.Path.{refl}
 use Prim.Native.Nat.{ℕ}
 use Rattle.wire.specs.declared.choice.Choice.the-variants.{The}
 use Rattle.kinds.specs.Codes.{rsa, keyedHash, ecc, symCipher}
-use Rattle.kinds.specs.Tables.{sensitiveRows, sensitiveArm}
+use Rattle.kinds.specs.Tables.{tpmuSensitiveCompositeRows, tpmuSensitiveCompositeArm}
 use Rattle.kinds.proofs.Choices.{chosen-among, none-unmatched}
 use Rattle.kinds.proofs.codes.TpmAlgId.sensitive_arm.Statement.{statement}
 use Rattle.kinds.proofs.codes.TpmAlgId.sensitive_arm.Tie as tie
@@ -13,12 +13,12 @@ abbrev pattern : List ℕ
 pattern = rsa ∷ keyedHash ∷ ecc ∷ symCipher ∷ []
 
 returns : tie.Need-returns
-unfolding sensitiveArm
-returns c = chosen-among The sensitiveRows pattern refl _ (c .match .keys1)
+unfolding tpmuSensitiveCompositeArm
+returns c = chosen-among The tpmuSensitiveCompositeRows pattern refl _ (c .match .keys1)
 
 returns-2 : tie.Need-returns-2
-unfolding sensitiveArm
-returns-2 c = none-unmatched sensitiveRows (pattern ∷ []) refl _ (c .match .rest)
+unfolding tpmuSensitiveCompositeArm
+returns-2 c = none-unmatched tpmuSensitiveCompositeRows (pattern ∷ []) refl _ (c .match .rest)
 
 pub sensitive-arm-spec : {M : Type 1} → statement M
 sensitive-arm-spec = tie.close (tie.spec returns returns-2)

@@ -5,7 +5,7 @@ use Prim.Native.Nat.{ℕ}
 use native.Mathlib.Omega.{arith}
 use Rattle.wire.specs.declared.choice.Choice.the-variants.{The}
 use Rattle.kinds.specs.Codes.{null, hmac, rsassa, rsapss, ecdsa, ecdaa, ecschnorr}
-use Rattle.kinds.specs.Tables.{sigRows, sigArm, empty, hash, hmacHash}
+use Rattle.kinds.specs.Tables.{tpmuSigSchemeRows, tpmuSigSchemeArm, empty, hash, hmacHash}
 use Rattle.kinds.proofs.Choices.{chosen-among, chosen-from, none-outside}
 use Rattle.kinds.proofs.codes.TpmAlgId.sig_arm.Statement.{statement}
 use Rattle.kinds.proofs.codes.TpmAlgId.sig_arm.Tie as tie
@@ -17,28 +17,28 @@ abbrev single : List (List ℕ)
 single = (hmac ∷ []) ∷ hashes ∷ (null ∷ []) ∷ []
 
 returns : tie.Need-returns
-unfolding sigArm
-returns c = chosen-among (λ v. The empty) sigRows (null ∷ []) refl _ (c .match .keys1)
+unfolding tpmuSigSchemeArm
+returns c = chosen-among (λ v. The empty) tpmuSigSchemeRows (null ∷ []) refl _ (c .match .keys1)
 
 returns-2 : tie.Need-returns-2
-unfolding sigArm
-returns-2 c = chosen-among (λ v. The hmacHash) sigRows (hmac ∷ []) refl _ (c .match .keys3)
+unfolding tpmuSigSchemeArm
+returns-2 c = chosen-among (λ v. The hmacHash) tpmuSigSchemeRows (hmac ∷ []) refl _ (c .match .keys3)
 
 returns-3 : tie.Need-returns-3
-unfolding sigArm
-returns-3 c = none-outside sigRows single ecdaa ecschnorr refl _ (c .before .match .rest) (λ h. omega arith)
+unfolding tpmuSigSchemeArm
+returns-3 c = none-outside tpmuSigSchemeRows single ecdaa ecschnorr refl _ (c .before .match .rest) (λ h. omega arith)
 
 returns-4 : tie.Need-returns-4
-unfolding sigArm
-returns-4 c = none-outside sigRows single ecdaa ecschnorr refl _ (c .before .before .match .rest) (λ h. omega arith)
+unfolding tpmuSigSchemeArm
+returns-4 c = none-outside tpmuSigSchemeRows single ecdaa ecschnorr refl _ (c .before .before .match .rest) (λ h. omega arith)
 
 returns-5 : tie.Need-returns-5
-unfolding sigArm
-returns-5 c = chosen-among (λ v. The hash) sigRows hashes refl _ (c .match .keys2)
+unfolding tpmuSigSchemeArm
+returns-5 c = chosen-among (λ v. The hash) tpmuSigSchemeRows hashes refl _ (c .match .keys2)
 
 returns-6 : tie.Need-returns-6
-unfolding sigArm
-returns-6 c = chosen-from (λ v. The hash) sigRows 3 ecdaa refl (c .before .before .before .args .self .0) (omega arith) (omega arith)
+unfolding tpmuSigSchemeArm
+returns-6 c = chosen-from (λ v. The hash) tpmuSigSchemeRows 3 ecdaa refl (c .before .before .before .args .self .0) (omega arith) (omega arith)
 
 pub sig-arm-spec : {M : Type 1} → statement M
 sig-arm-spec = tie.close (tie.spec returns returns-2 returns-3 returns-4 returns-5 returns-6)

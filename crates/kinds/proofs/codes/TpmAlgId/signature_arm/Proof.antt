@@ -5,7 +5,7 @@ use Prim.Native.Nat.{ℕ}
 use native.Mathlib.Omega.{arith}
 use Rattle.wire.specs.declared.choice.Choice.the-variants.{The}
 use Rattle.kinds.specs.Codes.{hmac, null, rsassa, rsapss, ecdsa, ecdaa, ecschnorr}
-use Rattle.kinds.specs.Tables.{signatureRows, signatureArm}
+use Rattle.kinds.specs.Tables.{tpmuSignatureRows, tpmuSignatureArm}
 use Rattle.kinds.proofs.Choices.{chosen-among, chosen-from, none-outside}
 use Rattle.kinds.proofs.codes.TpmAlgId.signature_arm.Statement.{statement}
 use Rattle.kinds.proofs.codes.TpmAlgId.signature_arm.Tie as tie
@@ -14,20 +14,20 @@ abbrev single : List ℕ
 single = hmac ∷ null ∷ rsassa ∷ rsapss ∷ ecdsa ∷ []
 
 returns : tie.Need-returns
-unfolding signatureArm
-returns c = none-outside signatureRows (single ∷ []) ecdaa ecschnorr refl _ (c .before .match .rest) (λ h. omega arith)
+unfolding tpmuSignatureArm
+returns c = none-outside tpmuSignatureRows (single ∷ []) ecdaa ecschnorr refl _ (c .before .match .rest) (λ h. omega arith)
 
 returns-2 : tie.Need-returns-2
-unfolding signatureArm
-returns-2 c = none-outside signatureRows (single ∷ []) ecdaa ecschnorr refl _ (c .before .before .match .rest) (λ h. omega arith)
+unfolding tpmuSignatureArm
+returns-2 c = none-outside tpmuSignatureRows (single ∷ []) ecdaa ecschnorr refl _ (c .before .before .match .rest) (λ h. omega arith)
 
 returns-3 : tie.Need-returns-3
-unfolding signatureArm
-returns-3 c = chosen-among The signatureRows single refl _ (c .match .keys1)
+unfolding tpmuSignatureArm
+returns-3 c = chosen-among The tpmuSignatureRows single refl _ (c .match .keys1)
 
 returns-4 : tie.Need-returns-4
-unfolding signatureArm
-returns-4 c = chosen-from The signatureRows 3 ecdaa refl _ (omega arith) (omega arith)
+unfolding tpmuSignatureArm
+returns-4 c = chosen-from The tpmuSignatureRows 3 ecdaa refl _ (omega arith) (omega arith)
 
 pub signature-arm-spec : {M : Type 1} → statement M
 signature-arm-spec = tie.close (tie.spec returns returns-2 returns-3 returns-4)

@@ -10,24 +10,6 @@ use Rattle.kinds.specs.Codes.{curve}
 use Rattle.kinds.proofs.codes.TpmEccCurve.unmarshal.Statement.{statement}
 use Rattle.kinds.proofs.codes.TpmEccCurve.unmarshal.Tie as tie
 
-uint16-requires : tie.Need-uint16-requires
-uint16-requires c κs = search needs
-
-enum-known-n : tie.Need-enum-known-n
-enum-known-n c = search needs
-
-is-listed-requires : tie.Need-is-listed-requires
-is-listed-requires c κs = search needs
-
-wide-requires : tie.Need-wide-requires
-wide-requires c κs = search needs
-
-unknown-code-requires : tie.Need-unknown-code-requires
-unknown-code-requires c κs = search needs
-
-enum-known-f : tie.Need-enum-known-f
-enum-known-f c = search needs
-
 returns : tie.Need-returns
 returns c = judged-found 2 curve _ _ (told uint16Answer (c .before .before .before .n .given .1) (c .before .before .before .before .before .uint16 .ensures)) (sym (c .before .is-listed .ensures) ∙ c .if1 .taken)
 
@@ -40,15 +22,5 @@ returns-3 : tie.Need-returns-3
 returns-3 c = judged-refused 2 curve _ _ (told uint16Answer (c .before .f .given .1) (c .before .before .before .uint16 .ensures))
 
 pub unmarshal-spec : {M : Type 1} → statement M
-unmarshal-spec =
-    tie.close
-    (tie.spec
-    uint16-requires
-    enum-known-n
-    is-listed-requires
-    wide-requires
-    unknown-code-requires
-    enum-known-f
-    returns
-    returns-2
-    returns-3)
+unmarshal-spec = tie.close (tie.spec
+    (search needs) (search needs) (search needs) (search needs) (search needs) (search needs) returns returns-2 returns-3)

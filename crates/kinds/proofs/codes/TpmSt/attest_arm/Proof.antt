@@ -7,9 +7,6 @@ use Rattle.wire.specs.Unions.{choose}
 use Rattle.kinds.proofs.codes.TpmSt.attest_arm.Statement.{statement}
 use Rattle.kinds.proofs.codes.TpmSt.attest_arm.Tie as tie
 
-is-listed-requires : tie.Need-is-listed-requires
-is-listed-requires c κs = search needs
-
 returns : tie.Need-returns
 returns c = sym (attestation-arm _ ∙ ap (λ b. choose b (The (c .before .before .args .self .0)) Nothing) (sym (c .before .is-listed .ensures) ∙ c .if1 .taken))
 
@@ -17,4 +14,4 @@ returns-2 : tie.Need-returns-2
 returns-2 c = sym (attestation-arm _ ∙ ap (λ b. choose b (The (c .before .before .args .self .0)) Nothing) (sym (c .before .is-listed .ensures) ∙ c .if1 .left))
 
 pub attest-arm-spec : {M : Type 1} → statement M
-attest-arm-spec = tie.close (tie.spec is-listed-requires returns returns-2)
+attest-arm-spec = tie.close (tie.spec (search needs) returns returns-2)

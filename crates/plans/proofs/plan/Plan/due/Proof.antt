@@ -5,27 +5,6 @@ use Rattle.plans.proofs.Pushed.{pushed-none}
 use Rattle.plans.proofs.plan.Plan.due.Statement.{statement}
 use Rattle.plans.proofs.plan.Plan.due.Tie as tie
 
-wide-requires : tie.Need-wide-requires
-wide-requires c κs = search needs
-
-enum-told : tie.Need-enum-told
-enum-told c = search needs
-
-mismatch-requires : tie.Need-mismatch-requires
-mismatch-requires c κs = search needs
-
-push-requires : tie.Need-push-requires
-push-requires c κs = search needs
-
-enum-told-2 : tie.Need-enum-told-2
-enum-told-2 c = search needs
-
-no-arm-requires : tie.Need-no-arm-requires
-no-arm-requires c κs = search needs
-
-push-requires-2 : tie.Need-push-requires-2
-push-requires-2 c κs = search needs
-
 returns : tie.Need-returns
 returns c = let a = c .before .before .before .before in rw (c .before .enum-told .given .1, c .if1 .taken) (pushed-none _ (a .pre .all), omega arith)
 
@@ -36,16 +15,5 @@ returns-3 : tie.Need-returns-3
 returns-3 c = rw (c .before .before .enum-told2 .given .1, ← c .before .before .before .before .wide .ensures .0, ← c .before .no-arm .ensures) (c .push2 .ensures, omega (arith, c .push2 .ensures .count))
 
 pub due-spec : {M : Type 1} → statement M
-due-spec =
-    tie.close
-    (tie.spec
-    wide-requires
-    enum-told
-    mismatch-requires
-    push-requires
-    enum-told-2
-    no-arm-requires
-    push-requires-2
-    returns
-    returns-2
-    returns-3)
+due-spec = tie.close (tie.spec
+    (search needs) (search needs) (search needs) (search needs) (search needs) (search needs) (search needs) returns returns-2 returns-3)

@@ -8,21 +8,6 @@ use Rattle.plans.specs.Walked.{placeAnswer}
 use Rattle.plans.proofs.plan.Plan.field_size.Statement.{statement}
 use Rattle.plans.proofs.plan.Plan.field_size.Tie as tie
 
-find-requires : tie.Need-find-requires
-find-requires c κs = search needs
-
-enum-known-span : tie.Need-enum-known-span
-enum-known-span c = search needs
-
-measure-requires : tie.Need-measure-requires
-measure-requires c κs = search needs
-
-enum-told : tie.Need-enum-told
-enum-told c = search needs
-
-no-field-requires : tie.Need-no-field-requires
-no-field-requires c κs = search needs
-
 returns : tie.Need-returns
 returns c = let a = c .before .before .before .before .before .before in c .measure .ensures ∙ ap sizeOf (told (λ r. placeAnswer r (a .args .index) (a .args .s .now)) (c .before .before .span .given .1) (c .before .before .before .before .find .ensures (a .args .s .now)))
 
@@ -30,13 +15,4 @@ returns-2 : tie.Need-returns-2
 returns-2 c = let a = c .before .before .before .before .before in ap refused (c .no-field .ensures) ∙ ap sizeOf (told (λ r. placeAnswer r (a .args .index) (a .args .s .now)) (c .before .enum-told .given .1) (c .before .before .before .find .ensures (a .args .s .now)))
 
 pub field-size-spec : {M : Type 1} → statement M
-field-size-spec =
-    tie.close
-    (tie.spec
-    find-requires
-    enum-known-span
-    measure-requires
-    enum-told
-    no-field-requires
-    returns
-    returns-2)
+field-size-spec = tie.close (tie.spec (search needs) (search needs) (search needs) (search needs) (search needs) returns returns-2)

@@ -27,24 +27,12 @@ mul-c c = omega (arith, c .before .before .before .pre .left)
 array-copy-out-c : tie.Need-array-copy-out-c Inv-loop μ-loop
 array-copy-out-c c = omega (arith, c .before .before .before .pre .left)
 
-field-requires : tie.Need-field-requires Inv-loop μ-loop
-field-requires c κs = search needs
-
-enum-known-span : tie.Need-enum-known-span Inv-loop μ-loop
-enum-known-span c = search needs
-
 returns : tie.Need-returns Inv-loop μ-loop
 unfolding steps fieldOf
 returns c = let f = c .before .before .before .before in
     let l = f .before .before .before .loop in
     let a = f .before .before .before .before .before in
     λ src. find-at (a .args .self .count) (a .args .self .cells) (l .i) (l .left) (a .args .index) src (a .pre .all) (a .pre .left) (f .field .result) (omega arith) (f .field .ensures) (c .before .before .span .given .1) (c .if1 .taken) ∙ l .inv .1 src
-
-sub-left : tie.Need-sub-left Inv-loop μ-loop
-sub-left c = search needs
-
-enum-told : tie.Need-enum-told Inv-loop μ-loop
-enum-told c = search needs
 
 add-i : tie.Need-add-i Inv-loop μ-loop
 add-i c = omega arith
@@ -75,20 +63,6 @@ returns-2 c = let l = c .before .loop in
     λ src. find-none (a .args .self .count) (a .args .self .cells) (l .i) (l .left) (a .args .index) src (a .pre .all) (a .pre .left) (omega arith) (omega arith) ∙ l .inv .1 src
 
 pub find-spec : {M : Type 1} → statement M
-find-spec =
-    tie.close
-    (tie.spec
-    Inv-loop
-    μ-loop
-    loop-holds
-    mul-c
-    array-copy-out-c
-    field-requires
-    enum-known-span
-    returns
-    sub-left
-    enum-told
-    add-i
-    loop-less
-    loop-again
-    returns-2)
+find-spec = tie.close (tie.spec
+    Inv-loop μ-loop loop-holds mul-c array-copy-out-c (search needs) (search needs) returns (search needs) (search needs) add-i loop-less
+    loop-again returns-2)

@@ -11,21 +11,6 @@ use Rattle.plans.proofs.Items.{of-the-list, no-list}
 use Rattle.plans.proofs.plan.Plan.find_item.Statement.{statement}
 use Rattle.plans.proofs.plan.Plan.find_item.Tie as tie
 
-find-list-requires : tie.Need-find-list-requires
-find-list-requires c κs = search needs
-
-enum-known-list : tie.Need-enum-known-list
-enum-known-list c = search needs
-
-item-in-requires : tie.Need-item-in-requires
-item-in-requires c κs = search needs
-
-enum-told : tie.Need-enum-told
-enum-told c = search needs
-
-no-field-requires : tie.Need-no-field-requires
-no-field-requires c κs = search needs
-
 returns : tie.Need-returns
 returns c = let a = c .before .before .before .before .before .before in c .item-in .ensures ∙ of-the-list (spanPart (c .before .before .list .given .0 .0) ∷ []) (listsOf (steps (a .args .self))) (a .args .index) (a .args .s .now) (told (λ r. placeAnswer r (a .args .index) (a .args .s .now)) (c .before .before .list .given .1) (c .before .before .before .before .find-list .ensures (a .args .index) (a .args .s .now)))
 
@@ -33,13 +18,4 @@ returns-2 : tie.Need-returns-2
 returns-2 c = let a = c .before .before .before .before .before in ap refused (c .no-field .ensures) ∙ no-list (listsOf (steps (a .args .self))) (a .args .index) (a .args .s .now) (told (λ r. placeAnswer r (a .args .index) (a .args .s .now)) (c .before .enum-told .given .1) (c .before .before .before .find-list .ensures (a .args .index) (a .args .s .now)))
 
 pub find-item-spec : {M : Type 1} → statement M
-find-item-spec =
-    tie.close
-    (tie.spec
-    find-list-requires
-    enum-known-list
-    item-in-requires
-    enum-told
-    no-field-requires
-    returns
-    returns-2)
+find-item-spec = tie.close (tie.spec (search needs) (search needs) (search needs) (search needs) (search needs) returns returns-2)

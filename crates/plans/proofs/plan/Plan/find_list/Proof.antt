@@ -26,21 +26,12 @@ mul-c c = omega (arith, c .before .before .before .pre .left)
 array-copy-out-c : tie.Need-array-copy-out-c Inv-loop μ-loop
 array-copy-out-c c = omega (arith, c .before .before .before .pre .left)
 
-list-requires : tie.Need-list-requires Inv-loop μ-loop
-list-requires c κs = search needs
-
-enum-known-span : tie.Need-enum-known-span Inv-loop μ-loop
-enum-known-span c = search needs
-
 returns : tie.Need-returns Inv-loop μ-loop
 unfolding steps
 returns c = let f = c .before .before .before in
     let l = f .before .before .before .loop in
     let a = f .before .before .before .before .before in
     λ asked src. list-at (a .args .self .count) (a .args .self .cells) (l .i) asked src (a .pre .all) (a .pre .left) (f .list .result) (omega arith) (f .list .ensures) (c .before .span .given .1) ∙ l .inv .1 asked src
-
-enum-told : tie.Need-enum-told Inv-loop μ-loop
-enum-told c = search needs
 
 add-i : tie.Need-add-i Inv-loop μ-loop
 add-i c = omega arith
@@ -61,19 +52,6 @@ returns-2 c = let l = c .before .loop in
     λ asked src. list-none (a .args .self .count) (a .args .self .cells) (l .i) asked src (a .pre .all) (a .pre .left) (omega arith) (omega arith) ∙ l .inv .1 asked src
 
 pub find-list-spec : {M : Type 1} → statement M
-find-list-spec =
-    tie.close
-    (tie.spec
-    Inv-loop
-    μ-loop
-    loop-holds
-    mul-c
-    array-copy-out-c
-    list-requires
-    enum-known-span
-    returns
-    enum-told
-    add-i
-    loop-less
-    loop-again
+find-list-spec = tie.close (tie.spec
+    Inv-loop μ-loop loop-holds mul-c array-copy-out-c (search needs) (search needs) returns (search needs) add-i loop-less loop-again
     returns-2)

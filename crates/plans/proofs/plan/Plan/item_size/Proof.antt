@@ -7,18 +7,6 @@ use Rattle.plans.specs.Walked.{itemAnswer}
 use Rattle.plans.proofs.plan.Plan.item_size.Statement.{statement}
 use Rattle.plans.proofs.plan.Plan.item_size.Tie as tie
 
-find-item-requires : tie.Need-find-item-requires
-find-item-requires c κs = search needs
-
-enum-known-span : tie.Need-enum-known-span
-enum-known-span c = search needs
-
-measure-requires : tie.Need-measure-requires
-measure-requires c κs = search needs
-
-enum-known-f : tie.Need-enum-known-f
-enum-known-f c = search needs
-
 returns : tie.Need-returns
 returns c = let a = c .before .before .before .before .before .before in c .measure .ensures ∙ ap sizeOf (told (λ r. itemAnswer r (a .args .s .now)) (c .before .before .span .given .1) (c .before .before .before .before .find-item .ensures))
 
@@ -26,6 +14,4 @@ returns-2 : tie.Need-returns-2
 returns-2 c = let a = c .before .before .before .before .before in ap sizeOf (told (λ r. itemAnswer r (a .args .s .now)) (c .before .f .given .1) (c .before .before .before .find-item .ensures))
 
 pub item-size-spec : {M : Type 1} → statement M
-item-size-spec =
-    tie.close
-    (tie.spec find-item-requires enum-known-span measure-requires enum-known-f returns returns-2)
+item-size-spec = tie.close (tie.spec (search needs) (search needs) (search needs) (search needs) returns returns-2)

@@ -30,12 +30,6 @@ array-copy-out-c c = omega (arith, c .before .before .before .before .pre .left)
 judge-requires : tie.Need-judge-requires Inv-loop μ-loop
 judge-requires c κs = omega (arith, c .before .before .before .before .before .pre .left)
 
-enum-known-e : tie.Need-enum-known-e Inv-loop μ-loop
-enum-known-e c = search needs
-
-enum-known-f : tie.Need-enum-known-f Inv-loop μ-loop
-enum-known-f c = search needs
-
 returns : tie.Need-returns Inv-loop μ-loop
 unfolding steps
 returns c = let j = c .before .before .before in
@@ -66,19 +60,6 @@ returns-2 c = let l = c .before .loop in
     judged-all (a .args .self .count) (a .args .self .cells) (a .args .src .now) (l .at) (l .i) (omega arith) (omega arith) room ∙ l .inv .2 ∙ after-start (spell (steps (a .args .self)) (a .args .src .now) 0)
 
 pub judge-spec : {M : Type 1} → statement M
-judge-spec =
-    tie.close
-    (tie.spec
-    Inv-loop
-    μ-loop
-    loop-holds
-    mul-c
-    array-copy-out-c
-    judge-requires
-    enum-known-e
-    enum-known-f
-    returns
-    add-i
-    loop-less
-    loop-again
+judge-spec = tie.close (tie.spec
+    Inv-loop μ-loop loop-holds mul-c array-copy-out-c judge-requires (search needs) (search needs) returns add-i loop-less loop-again
     returns-2)

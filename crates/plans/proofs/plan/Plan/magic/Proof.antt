@@ -8,17 +8,8 @@ use Rattle.plans.proofs.Numbers.{numbered}
 use Rattle.plans.proofs.plan.Plan.magic.Statement.{statement}
 use Rattle.plans.proofs.plan.Plan.magic.Tie as tie
 
-wider-requires : tie.Need-wider-requires
-wider-requires c κs = search needs
-
-bad-value-requires : tie.Need-bad-value-requires
-bad-value-requires c κs = search needs
-
-number-requires : tie.Need-number-requires
-number-requires c κs = search needs
-
 returns : tie.Need-returns
 returns c = numbered Width.Four magic (c .before .before .wider .ensures .0) refl (ap (λ n. eqb n 0xFF544347) (c .before .before .wider .ensures .0)) (c .before .bad-value .ensures) (c .before .before .wider .ensures .1) (c .number .ensures)
 
 pub magic-spec : {M : Type 1} → statement M
-magic-spec = tie.close (tie.spec wider-requires bad-value-requires number-requires returns)
+magic-spec = tie.close (tie.spec (search needs) (search needs) (search needs) returns)

@@ -53,17 +53,5 @@ returns c = let a = c .before .before .before .before .before in
     putting-end (a .args .self .count) (a .args .self .cells) (l .i) (omega arith) (omega arith) (a .pre .0 .all) (a .pre .0 .left) (l .inv .1)
 
 pub put-spec : {M : Type 1} → statement M
-put-spec =
-    tie.close
-    (tie.spec
-    Inv-loop
-    μ-loop
-    loop-holds
-    mul-c
-    array-copy-out-c
-    put-requires
-    add-i
-    loop-less
-    loop-again
-    same-length
-    returns)
+put-spec = tie.close (tie.spec
+    Inv-loop μ-loop loop-holds mul-c array-copy-out-c put-requires add-i loop-less loop-again same-length returns)

@@ -3,14 +3,8 @@ use borrow.Author.Needs.{needs}
 use Rattle.plans.proofs.plan.Plan.uint16.Statement.{statement}
 use Rattle.plans.proofs.plan.Plan.uint16.Tie as tie
 
-wide-requires : tie.Need-wide-requires
-wide-requires c κs = search needs
-
-push-requires : tie.Need-push-requires
-push-requires c κs = search needs
-
 returns : tie.Need-returns
 returns c = record { pushed = rw (← c .before .wide .ensures .0) (c .push .ensures); fits = c .before .wide .ensures .1 }
 
 pub uint16-spec : {M : Type 1} → statement M
-uint16-spec = tie.close (tie.spec wide-requires push-requires returns)
+uint16-spec = tie.close (tie.spec (search needs) (search needs) returns)

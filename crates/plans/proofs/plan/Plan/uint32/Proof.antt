@@ -3,14 +3,8 @@ use borrow.Author.Needs.{needs}
 use Rattle.plans.proofs.plan.Plan.uint32.Statement.{statement}
 use Rattle.plans.proofs.plan.Plan.uint32.Tie as tie
 
-wider-requires : tie.Need-wider-requires
-wider-requires c κs = search needs
-
-push-requires : tie.Need-push-requires
-push-requires c κs = search needs
-
 returns : tie.Need-returns
 returns c = record { pushed = rw (← c .before .wider .ensures .0) (c .push .ensures); fits = c .before .wider .ensures .1 }
 
 pub uint32-spec : {M : Type 1} → statement M
-uint32-spec = tie.close (tie.spec wider-requires push-requires returns)
+uint32-spec = tie.close (tie.spec (search needs) (search needs) returns)

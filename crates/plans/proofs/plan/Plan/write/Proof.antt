@@ -8,28 +8,13 @@ use Rattle.plans.proofs.Finding.{sized-legal, written-fits, written-ful
 use Rattle.plans.proofs.plan.Plan.write.Statement.{statement}
 use Rattle.plans.proofs.plan.Plan.write.Tie as tie
 
-judge-requires : tie.Need-judge-requires
-judge-requires c κs = search needs
-
-enum-known-n : tie.Need-enum-known-n
-enum-known-n c = search needs
-
 put-requires : tie.Need-put-requires
 put-requires c κs = let a = c .before .before .before .before .before .before .before .before in
     let legal = sized-legal (spell (steps (a .args .self)) (a .args .src .now) 0) (told measureAnswer (c .before .before .before .n .given .1) (c .before .before .before .before .before .judge .ensures)) in
     (a .pre, legal .0, omega (arith, legal .1))
 
-same-length : tie.Need-same-length
-same-length c = search needs
-
 returns : tie.Need-returns
 returns c = let a = c .before .before .before .before .before .before .before .before .before .before .before in written-fits (spell (steps (a .args .self)) (a .args .src .now) 0) (a .args .out .now) (told measureAnswer (c .before .before .before .before .before .before .n .given .1) (c .before .before .before .before .before .before .before .before .judge .ensures)) (omega arith) (c .before .before .put .ensures)
-
-no-room-requires : tie.Need-no-room-requires
-no-room-requires c κs = search needs
-
-enum-known-f : tie.Need-enum-known-f
-enum-known-f c = search needs
 
 returns-2 : tie.Need-returns-2
 returns-2 c = let a = c .before .before .before .before .before .before .before .before in rw (c .no-room .ensures) (written-full (spell (steps (a .args .self)) (a .args .src .now) 0) (a .args .out .now) (told measureAnswer (c .before .before .before .n .given .1) (c .before .before .before .before .before .judge .ensures)) (omega arith))
@@ -38,15 +23,5 @@ returns-3 : tie.Need-returns-3
 returns-3 c = let a = c .before .before .before .before .before .before in written-no (spell (steps (a .args .self)) (a .args .src .now) 0) (a .args .out .now) (told measureAnswer (c .before .f .given .1) (c .before .before .before .judge .ensures))
 
 pub write-spec : {M : Type 1} → statement M
-write-spec =
-    tie.close
-    (tie.spec
-    judge-requires
-    enum-known-n
-    put-requires
-    same-length
-    returns
-    no-room-requires
-    enum-known-f
-    returns-2
-    returns-3)
+write-spec = tie.close (tie.spec
+    (search needs) (search needs) put-requires (search needs) returns (search needs) (search needs) returns-2 returns-3)

@@ -8,17 +8,8 @@ use Rattle.plans.proofs.Numbers.{numbered, yes-or-no}
 use Rattle.plans.proofs.plan.Plan.yes_no.Statement.{statement}
 use Rattle.plans.proofs.plan.Plan.yes_no.Tie as tie
 
-byte-requires : tie.Need-byte-requires
-byte-requires c κs = search needs
-
-bad-value-requires : tie.Need-bad-value-requires
-bad-value-requires c κs = search needs
-
-number-requires : tie.Need-number-requires
-number-requires c κs = search needs
-
 returns : tie.Need-returns
 returns c = numbered Width.One yesNo (c .before .before .byte .ensures .0) refl (ap (λ n. leb n 1) (c .before .before .byte .ensures .0) ∙ yes-or-no (c .before .before .before .args .b)) (c .before .bad-value .ensures) (c .before .before .byte .ensures .1) (c .number .ensures)
 
 pub yes-no-spec : {M : Type 1} → statement M
-yes-no-spec = tie.close (tie.spec byte-requires bad-value-requires number-requires returns)
+yes-no-spec = tie.close (tie.spec (search needs) (search needs) (search needs) returns)

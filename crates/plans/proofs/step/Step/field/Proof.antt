@@ -3,21 +3,6 @@ use borrow.Author.Needs.{needs}
 use Rattle.plans.proofs.step.Step.field.Statement.{statement}
 use Rattle.plans.proofs.step.Step.field.Tie as tie
 
-enum-told : tie.Need-enum-told
-enum-told c = search needs
-
-enum-known-self : tie.Need-enum-known-self
-enum-known-self c = search needs
-
-enum-known-self-2 : tie.Need-enum-known-self-2
-enum-known-self-2 c = search needs
-
-enum-known-self-3 : tie.Need-enum-known-self-3
-enum-known-self-3 c = search needs
-
-enum-told-2 : tie.Need-enum-told-2
-enum-told-2 c = search needs
-
 returns : tie.Need-returns
 returns c = λ ss. rw (c .enum-told .given .1)
 
@@ -34,16 +19,5 @@ returns-5 : tie.Need-returns-5
 returns-5 c = λ ss. rw (c .enum-told2 .given .1)
 
 pub field-spec : {M : Type 1} → statement M
-field-spec =
-    tie.close
-    (tie.spec
-    enum-told
-    enum-known-self
-    enum-known-self-2
-    enum-known-self-3
-    enum-told-2
-    returns
-    returns-2
-    returns-3
-    returns-4
-    returns-5)
+field-spec = tie.close (tie.spec
+    (search needs) (search needs) (search needs) (search needs) (search needs) returns returns-2 returns-3 returns-4 returns-5)

@@ -3,21 +3,6 @@ use borrow.Author.Needs.{needs}
 use Rattle.plans.proofs.step.Step.list.Statement.{statement}
 use Rattle.plans.proofs.step.Step.list.Tie as tie
 
-enum-told : tie.Need-enum-told
-enum-told c = search needs
-
-enum-told-2 : tie.Need-enum-told-2
-enum-told-2 c = search needs
-
-enum-told-3 : tie.Need-enum-told-3
-enum-told-3 c = search needs
-
-enum-known-self : tie.Need-enum-known-self
-enum-known-self c = search needs
-
-enum-told-4 : tie.Need-enum-told-4
-enum-told-4 c = search needs
-
 returns : tie.Need-returns
 returns c = λ ss. rw (c .enum-told .given .1)
 
@@ -34,16 +19,5 @@ returns-5 : tie.Need-returns-5
 returns-5 c = λ ss. rw (c .enum-told4 .given .1)
 
 pub list-spec : {M : Type 1} → statement M
-list-spec =
-    tie.close
-    (tie.spec
-    enum-told
-    enum-told-2
-    enum-told-3
-    enum-known-self
-    enum-told-4
-    returns
-    returns-2
-    returns-3
-    returns-4
-    returns-5)
+list-spec = tie.close (tie.spec
+    (search needs) (search needs) (search needs) (search needs) (search needs) returns returns-2 returns-3 returns-4 returns-5)

@@ -1,51 +1,23 @@
 -- Field by field, what is left to read is the rest of the layout. Assumes nothing.
 use borrow.Author.Needs.{needs}
 use Rattle.wire.proofs.Rest.{told, begin, done, fails-number, past-number}
-use Rattle.kinds.specs.Kinds.{schemeXor}
-use Rattle.kinds.specs.Answers.{algAnswer}
+use Rattle.kinds.specs.Kinds.{tpmsSchemeXor}
+use Rattle.kinds.specs.Answers.{tpmAlgIdAnswer}
 use Rattle.schemes.proofs.tpms.TpmsSchemeXor.unmarshal.Statement.{statement}
 use Rattle.schemes.proofs.tpms.TpmsSchemeXor.unmarshal.Tie as tie
 
-unmarshal-requires : tie.Need-unmarshal-requires
-unmarshal-requires c κs = search needs
-
-enum-known-v : tie.Need-enum-known-v
-enum-known-v c = search needs
-
-enum-known-f : tie.Need-enum-known-f
-enum-known-f c = search needs
-
 returns : tie.Need-returns
-unfolding schemeXor
-returns c = fails-number (begin _ _ _) (told algAnswer (c .before .f .given .1) (c .before .before .before .unmarshal .ensures))
-
-unmarshal-requires-2 : tie.Need-unmarshal-requires-2
-unmarshal-requires-2 c κs = search needs
-
-enum-known-v-2 : tie.Need-enum-known-v-2
-enum-known-v-2 c = search needs
-
-enum-known-f-2 : tie.Need-enum-known-f-2
-enum-known-f-2 c = search needs
+unfolding tpmsSchemeXor
+returns c = fails-number (begin _ _ _) (told tpmAlgIdAnswer (c .before .f .given .1) (c .before .before .before .unmarshal .ensures))
 
 returns-2 : tie.Need-returns-2
-unfolding schemeXor
-returns-2 c = fails-number (past-number (begin _ _ _) (told algAnswer (c .before .before .before .before .before .v .given .1) (c .before .before .before .before .before .before .before .unmarshal .ensures))) (told algAnswer (c .before .f2 .given .1) (c .before .before .before .unmarshal2 .ensures))
+unfolding tpmsSchemeXor
+returns-2 c = fails-number (past-number (begin _ _ _) (told tpmAlgIdAnswer (c .before .before .before .before .before .v .given .1) (c .before .before .before .before .before .before .before .unmarshal .ensures))) (told tpmAlgIdAnswer (c .before .f2 .given .1) (c .before .before .before .unmarshal2 .ensures))
 
 returns-3 : tie.Need-returns-3
-unfolding schemeXor
-returns-3 c = done (past-number (past-number (begin _ _ _) (told algAnswer (c .before .before .before .before .before .v .given .1) (c .before .before .before .before .before .before .before .unmarshal .ensures))) (told algAnswer (c .before .v2 .given .1) (c .before .before .before .unmarshal2 .ensures)))
+unfolding tpmsSchemeXor
+returns-3 c = done (past-number (past-number (begin _ _ _) (told tpmAlgIdAnswer (c .before .before .before .before .before .v .given .1) (c .before .before .before .before .before .before .before .unmarshal .ensures))) (told tpmAlgIdAnswer (c .before .v2 .given .1) (c .before .before .before .unmarshal2 .ensures)))
 
 pub unmarshal-spec : {M : Type 1} → statement M
-unmarshal-spec =
-    tie.close
-    (tie.spec
-    unmarshal-requires
-    enum-known-v
-    enum-known-f
-    returns
-    unmarshal-requires-2
-    enum-known-v-2
-    enum-known-f-2
-    returns-2
-    returns-3)
+unmarshal-spec = tie.close (tie.spec
+    (search needs) (search needs) (search needs) returns (search needs) (search needs) (search needs) returns-2 returns-3)

@@ -3,21 +3,6 @@ use borrow.Author.Needs.{needs}
 use Rattle.schemes.proofs.tpmu.TpmuAsymScheme.matches_tag.Statement.{statement}
 use Rattle.schemes.proofs.tpmu.TpmuAsymScheme.matches_tag.Tie as tie
 
-asym-arm-requires : tie.Need-asym-arm-requires
-asym-arm-requires c κs = search needs
-
-enum-told : tie.Need-enum-told
-enum-told c = search needs
-
-is-requires : tie.Need-is-requires
-is-requires c κs = search needs
-
-enum-told-2 : tie.Need-enum-told-2
-enum-told-2 c = search needs
-
-is-requires-2 : tie.Need-is-requires-2
-is-requires-2 c κs = search needs
-
 returns : tie.Need-returns
 returns c = rw (c .before .enum-told .given .1, ← c .before .before .before .asym-arm .ensures) (c .is .ensures)
 
@@ -25,6 +10,4 @@ returns-2 : tie.Need-returns-2
 returns-2 c = rw (c .before .enum-told2 .given .1, ← c .before .before .before .asym-arm .ensures) (c .is2 .ensures)
 
 pub matches-tag-spec : {M : Type 1} → statement M
-matches-tag-spec =
-    tie.close
-    (tie.spec asym-arm-requires enum-told is-requires enum-told-2 is-requires-2 returns returns-2)
+matches-tag-spec = tie.close (tie.spec (search needs) (search needs) (search needs) (search needs) (search needs) returns returns-2)

@@ -4,69 +4,33 @@ use mathlib.Core.Path.{sym, ap, _∙_}
 use Rattle.wire.specs.declared.choice.Choice.the-variants.{The}
 use Rattle.wire.proofs.Leaves.{read-stop}
 use Rattle.wire.proofs.Rest.{told, arm-found, arm-refused, arm-missing}
-use Rattle.kinds.specs.Kinds.{asymBody, asymBy}
-use Rattle.schemes.specs.Answers.{schemeHashAnswer}
+use Rattle.kinds.specs.Kinds.{tpmuAsymSchemeBody, tpmuAsymScheme}
+use Rattle.schemes.specs.Answers.{tpmsSchemeHashAnswer}
 use Rattle.schemes.proofs.Arms.{asym-hash}
 use Rattle.schemes.proofs.tpmu.TpmuAsymScheme.unmarshal_tagged.Statement.{statement}
 use Rattle.schemes.proofs.tpmu.TpmuAsymScheme.unmarshal_tagged.Tie as tie
 
-asym-arm-requires : tie.Need-asym-arm-requires
-asym-arm-requires c κs = search needs
-
-enum-known-t : tie.Need-enum-known-t
-enum-known-t c = search needs
-
 returns : tie.Need-returns
-unfolding asymBy
-returns c = arm-found asymBody _ _ _ (ap The (sym (c .if1 .taken)) ∙ sym (c .before .before .t .given .1) ∙ c .before .before .before .before .asym-arm .ensures) (sym (read-stop _ _))
-
-unmarshal-requires : tie.Need-unmarshal-requires
-unmarshal-requires c κs = search needs
-
-enum-known-x : tie.Need-enum-known-x
-enum-known-x c = search needs
-
-enum-known-f : tie.Need-enum-known-f
-enum-known-f c = search needs
-
-enum-told : tie.Need-enum-told
-enum-told c = search needs
-
-wide-requires : tie.Need-wide-requires
-wide-requires c κs = search needs
-
-no-arm-requires : tie.Need-no-arm-requires
-no-arm-requires c κs = search needs
+unfolding tpmuAsymScheme
+returns c = arm-found tpmuAsymSchemeBody _ _ _ (ap The (sym (c .if1 .taken)) ∙ sym (c .before .before .t .given .1) ∙ c .before .before .before .before .asym-arm .ensures) (sym (read-stop _ _))
 
 returns-2 : tie.Need-returns-2
-unfolding asymBy
+unfolding tpmuAsymScheme
 returns-2 c =
     let chosen = sym (c .before .before .before .before .before .before .t .given .1) ∙ c .before .before .before .before .before .before .before .before .asym-arm .ensures in
-    arm-found asymBody _ _ _ (ap The (sym (asym-hash _ (sym chosen) (c .before .before .before .before .if1 .left))) ∙ chosen) (told schemeHashAnswer (c .before .x .given .1) (c .before .before .before .unmarshal .ensures))
+    arm-found tpmuAsymSchemeBody _ _ _ (ap The (sym (asym-hash _ (sym chosen) (c .before .before .before .before .if1 .left))) ∙ chosen) (told tpmsSchemeHashAnswer (c .before .x .given .1) (c .before .before .before .unmarshal .ensures))
 
 returns-3 : tie.Need-returns-3
-unfolding asymBy
+unfolding tpmuAsymScheme
 returns-3 c =
     let chosen = sym (c .before .before .before .before .before .before .t .given .1) ∙ c .before .before .before .before .before .before .before .before .asym-arm .ensures in
-    arm-refused asymBody _ _ _ (ap The (sym (asym-hash _ (sym chosen) (c .before .before .before .before .if1 .left))) ∙ chosen) (told schemeHashAnswer (c .before .f .given .1) (c .before .before .before .unmarshal .ensures))
+    arm-refused tpmuAsymSchemeBody _ _ _ (ap The (sym (asym-hash _ (sym chosen) (c .before .before .before .before .if1 .left))) ∙ chosen) (told tpmsSchemeHashAnswer (c .before .f .given .1) (c .before .before .before .unmarshal .ensures))
 
 returns-4 : tie.Need-returns-4
-unfolding asymBy
-returns-4 c = rw (c .no-arm .ensures, c .before .wide .ensures) (arm-missing asymBody _ _ _ (sym (c .before .before .enum-told .given .1) ∙ c .before .before .before .before .asym-arm .ensures))
+unfolding tpmuAsymScheme
+returns-4 c = rw (c .no-arm .ensures, c .before .wide .ensures) (arm-missing tpmuAsymSchemeBody _ _ _ (sym (c .before .before .enum-told .given .1) ∙ c .before .before .before .before .asym-arm .ensures))
 
 pub unmarshal-tagged-spec : {M : Type 1} → statement M
-unmarshal-tagged-spec =
-    tie.close
-    (tie.spec
-    asym-arm-requires
-    enum-known-t
-    returns
-    unmarshal-requires
-    enum-known-x
-    enum-known-f
-    enum-told
-    wide-requires
-    no-arm-requires
-    returns-2
-    returns-3
-    returns-4)
+unmarshal-tagged-spec = tie.close (tie.spec
+    (search needs) (search needs) returns (search needs) (search needs) (search needs) (search needs) (search needs) (search needs)
+    returns-2 returns-3 returns-4)

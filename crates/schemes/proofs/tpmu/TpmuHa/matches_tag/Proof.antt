@@ -6,36 +6,6 @@ use Rattle.schemes.proofs.Arms.{digest-due, digest-missing, digest-not-
 use Rattle.schemes.proofs.tpmu.TpmuHa.matches_tag.Statement.{statement}
 use Rattle.schemes.proofs.tpmu.TpmuHa.matches_tag.Tie as tie
 
-digest-len-requires : tie.Need-digest-len-requires
-digest-len-requires c κs = search needs
-
-enum-known-n : tie.Need-enum-known-n
-enum-known-n c = search needs
-
-enum-known-self : tie.Need-enum-known-self
-enum-known-self c = search needs
-
-len-requires : tie.Need-len-requires
-len-requires c κs = search needs
-
-cast-result : tie.Need-cast-result
-cast-result c = search needs
-
-enum-told : tie.Need-enum-told
-enum-told c = search needs
-
-enum-told-2 : tie.Need-enum-told-2
-enum-told-2 c = search needs
-
-enum-told-3 : tie.Need-enum-told-3
-enum-told-3 c = search needs
-
-enum-told-4 : tie.Need-enum-told-4
-enum-told-4 c = search needs
-
-enum-told-5 : tie.Need-enum-told-5
-enum-told-5 c = search needs
-
 returns : tie.Need-returns
 returns c = digest-due (c .before .before .self .given .1) (told digestChoice (c .before .before .before .before .before .n .given .1) (c .before .before .before .before .before .before .before .digest-len .ensures)) (c .len .ensures)
 
@@ -52,21 +22,6 @@ returns-5 : tie.Need-returns-5
 returns-5 c = none-due (c .before .before .before .args .self) (told digestChoice (c .enum-told5 .given .1) (c .before .before .digest-len .ensures))
 
 pub matches-tag-spec : {M : Type 1} → statement M
-matches-tag-spec =
-    tie.close
-    (tie.spec
-    digest-len-requires
-    enum-known-n
-    enum-known-self
-    len-requires
-    cast-result
-    enum-told
-    enum-told-2
-    enum-told-3
-    enum-told-4
-    enum-told-5
-    returns
-    returns-2
-    returns-3
-    returns-4
-    returns-5)
+matches-tag-spec = tie.close (tie.spec
+    (search needs) (search needs) (search needs) (search needs) (search needs) (search needs) (search needs) (search needs) (search needs)
+    (search needs) returns returns-2 returns-3 returns-4 returns-5)

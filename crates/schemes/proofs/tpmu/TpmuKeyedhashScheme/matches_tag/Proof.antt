@@ -3,27 +3,6 @@ use borrow.Author.Needs.{needs}
 use Rattle.schemes.proofs.tpmu.TpmuKeyedhashScheme.matches_tag.Statement.{statement}
 use Rattle.schemes.proofs.tpmu.TpmuKeyedhashScheme.matches_tag.Tie as tie
 
-keyedhash-arm-requires : tie.Need-keyedhash-arm-requires
-keyedhash-arm-requires c κs = search needs
-
-enum-told : tie.Need-enum-told
-enum-told c = search needs
-
-is-requires : tie.Need-is-requires
-is-requires c κs = search needs
-
-enum-told-2 : tie.Need-enum-told-2
-enum-told-2 c = search needs
-
-is-requires-2 : tie.Need-is-requires-2
-is-requires-2 c κs = search needs
-
-enum-told-3 : tie.Need-enum-told-3
-enum-told-3 c = search needs
-
-is-requires-3 : tie.Need-is-requires-3
-is-requires-3 c κs = search needs
-
 returns : tie.Need-returns
 returns c = rw (c .before .enum-told .given .1, ← c .before .before .before .keyedhash-arm .ensures) (c .is .ensures)
 
@@ -34,16 +13,5 @@ returns-3 : tie.Need-returns-3
 returns-3 c = rw (c .before .enum-told3 .given .1, ← c .before .before .before .keyedhash-arm .ensures) (c .is3 .ensures)
 
 pub matches-tag-spec : {M : Type 1} → statement M
-matches-tag-spec =
-    tie.close
-    (tie.spec
-    keyedhash-arm-requires
-    enum-told
-    is-requires
-    enum-told-2
-    is-requires-2
-    enum-told-3
-    is-requires-3
-    returns
-    returns-2
-    returns-3)
+matches-tag-spec = tie.close (tie.spec
+    (search needs) (search needs) (search needs) (search needs) (search needs) (search needs) (search needs) returns returns-2 returns-3)

@@ -3,39 +3,6 @@ use borrow.Author.Needs.{needs}
 use Rattle.schemes.proofs.tpmu.TpmuSymMode.matches_tag.Statement.{statement}
 use Rattle.schemes.proofs.tpmu.TpmuSymMode.matches_tag.Tie as tie
 
-cipher-arm-requires : tie.Need-cipher-arm-requires
-cipher-arm-requires c κs = search needs
-
-enum-told : tie.Need-enum-told
-enum-told c = search needs
-
-is-requires : tie.Need-is-requires
-is-requires c κs = search needs
-
-enum-told-2 : tie.Need-enum-told-2
-enum-told-2 c = search needs
-
-is-requires-2 : tie.Need-is-requires-2
-is-requires-2 c κs = search needs
-
-enum-told-3 : tie.Need-enum-told-3
-enum-told-3 c = search needs
-
-is-requires-3 : tie.Need-is-requires-3
-is-requires-3 c κs = search needs
-
-enum-told-4 : tie.Need-enum-told-4
-enum-told-4 c = search needs
-
-is-requires-4 : tie.Need-is-requires-4
-is-requires-4 c κs = search needs
-
-enum-told-5 : tie.Need-enum-told-5
-enum-told-5 c = search needs
-
-is-requires-5 : tie.Need-is-requires-5
-is-requires-5 c κs = search needs
-
 returns : tie.Need-returns
 returns c = rw (c .before .enum-told .given .1, ← c .before .before .before .cipher-arm .ensures) (c .is .ensures)
 
@@ -52,22 +19,6 @@ returns-5 : tie.Need-returns-5
 returns-5 c = rw (c .before .enum-told5 .given .1, ← c .before .before .before .cipher-arm .ensures) (c .is5 .ensures)
 
 pub matches-tag-spec : {M : Type 1} → statement M
-matches-tag-spec =
-    tie.close
-    (tie.spec
-    cipher-arm-requires
-    enum-told
-    is-requires
-    enum-told-2
-    is-requires-2
-    enum-told-3
-    is-requires-3
-    enum-told-4
-    is-requires-4
-    enum-told-5
-    is-requires-5
-    returns
-    returns-2
-    returns-3
-    returns-4
-    returns-5)
+matches-tag-spec = tie.close (tie.spec
+    (search needs) (search needs) (search needs) (search needs) (search needs) (search needs) (search needs) (search needs) (search needs)
+    (search needs) (search needs) returns returns-2 returns-3 returns-4 returns-5)

@@ -5,17 +5,11 @@ use Rattle.wire.proofs.Cuts.{size-there, size-out}
 use Rattle.wire.proofs.span.Span.measure.Statement.{statement}
 use Rattle.wire.proofs.span.Span.measure.Tie as tie
 
-inside-requires : tie.Need-inside-requires
-inside-requires c κs = search needs
-
 returns : tie.Need-returns
 returns c = size-there _ _ _ _ (sym (c .before .inside .ensures) ∙ c .if1 .taken)
-
-bad-span-requires : tie.Need-bad-span-requires
-bad-span-requires c κs = search needs
 
 returns-2 : tie.Need-returns-2
 returns-2 c = rw (c .bad-span .ensures) (size-out _ _ _ _ (sym (c .before .before .inside .ensures) ∙ c .before .if1 .left))
 
 pub measure-spec : {M : Type 1} → statement M
-measure-spec = tie.close (tie.spec inside-requires returns bad-span-requires returns-2)
+measure-spec = tie.close (tie.spec (search needs) returns (search needs) returns-2)

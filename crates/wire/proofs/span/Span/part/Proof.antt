@@ -7,17 +7,8 @@ use Rattle.wire.proofs.Cuts.{part-there, part-out}
 use Rattle.wire.proofs.span.Span.part.Statement.{statement}
 use Rattle.wire.proofs.span.Span.part.Tie as tie
 
-inside-requires : tie.Need-inside-requires
-inside-requires c κs = search needs
-
 add-end : tie.Need-add-end
 add-end c = let within = sym (c .before .before .inside .ensures) ∙ c .before .if1 .taken in omega (arith, leb-true)
-
-sub-result : tie.Need-sub-result
-sub-result c = search needs
-
-part-result-start : tie.Need-part-result-start
-part-result-start c = search needs
 
 part-result-end : tie.Need-part-result-end
 part-result-end c = let within = sym (c .before .before .inside .ensures) ∙ c .before .if1 .taken in omega (arith, leb-true)
@@ -25,29 +16,9 @@ part-result-end c = let within = sym (c .before .before .inside .ensures) ∙ c 
 returns : tie.Need-returns
 returns c = part-there _ _ _ _ (sym (c .before .before .before .inside .ensures) ∙ c .before .before .if1 .taken)
 
-sub-result-2 : tie.Need-sub-result-2
-sub-result-2 c = search needs
-
-part-result-start-2 : tie.Need-part-result-start-2
-part-result-start-2 c = search needs
-
-part-result-end-2 : tie.Need-part-result-end-2
-part-result-end-2 c = search needs
-
 returns-2 : tie.Need-returns-2
 returns-2 c = part-out _ _ _ 0 (sym (c .before .before .inside .ensures) ∙ c .before .if1 .left)
 
 pub part-spec : {M : Type 1} → statement M
-part-spec =
-    tie.close
-    (tie.spec
-    inside-requires
-    add-end
-    sub-result
-    part-result-start
-    part-result-end
-    returns
-    sub-result-2
-    part-result-start-2
-    part-result-end-2
-    returns-2)
+part-spec = tie.close (tie.spec
+    (search needs) add-end (search needs) (search needs) part-result-end returns (search needs) (search needs) (search needs) returns-2)
