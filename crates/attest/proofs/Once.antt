@@ -2,8 +2,8 @@
 use mathlib.Core.Path.{refl}
 use mathlib.Core.List.{List, [], _∷_}
 use Rattle.wire.proofs.Once.{Injective, Once, number-once, span-once, both, fields, holds, union, answers}
-use Rattle.kinds.specs.Codes.{attestNv, attestCommandAudit, attestSessionAudit, attestCertify, attestQuote, attestTime, attestCreation, attestNvDigest}
-use Rattle.kinds.proofs.Once.{alg-once, attestation-once}
+use Rattle.format.specs.Codes.{attestNv, attestCommandAudit, attestSessionAudit, attestCertify, attestQuote, attestTime, attestCreation, attestNvDigest}
+use Rattle.format.proofs.Once.{alg-once, attestation-once}
 use Rattle.schemes.proofs.Once.{pcr-selections-once}
 use Rattle.attest.specs.declared.tpms.TpmsClockInfo.{TpmsClockInfo}
 use Rattle.attest.specs.declared.tpms.TpmsTimeInfo.{TpmsTimeInfo}

@@ -3,11 +3,11 @@ use crate::tpms::TpmsClockInfo;
 use crate::tpms::TpmsClockInfoRead;
 use crate::tpmu::TpmuAttest;
 use crate::tpmu::TpmuAttestRead;
-use kinds::codes::TpmSt;
-use kinds::codes::TpmStRead;
-use kinds::limits;
-use kinds::uint::Uint32Read;
-use kinds::uint::magic_number;
+use format::codes::TpmSt;
+use format::codes::TpmStRead;
+use format::limits;
+use format::uint::Uint32Read;
+use format::uint::magic_number;
 use wire::fault::Refusal;
 use wire::read::NumberRead;
 use wire::read::SpanRead;
@@ -16,11 +16,10 @@ use wire::read::number;
 use wire::span::Span;
 use wire::width::Width;
 ghost use mathlib.Core.Path.{_≡_};
-ghost use mathlib.Core.List.{_∷_};
 ghost use Rattle.wire.specs.Answers.{spanPart};
 ghost use Rattle.wire.specs.Layout.{number, free, _then_};
-ghost use Rattle.wire.specs.Reading.{num, fronted, read};
-ghost use Rattle.kinds.specs.Kinds.{tpmsAttest, tpmuAttest, tpmsClockInfo};
+ghost use Rattle.wire.specs.Reading.{num, also, read};
+ghost use Rattle.format.specs.Kinds.{tpmsAttest, tpmuAttest, tpmsClockInfo};
 ghost use Rattle.attest.specs.Answers.{tpmsAttestAnswer};
 
 pub struct TpmsAttest {
@@ -84,7 +83,7 @@ impl TpmsAttest {
         s: &[u8],
         at: usize,
     ) -> TpmsAttestRead
-        ensures { λ r. ⌜ tpmsAttestAnswer r ≡ fronted (λ qs. num magic ∷ num (kind .0) ∷ spanPart signer ∷ spanPart extra ∷ qs) (read (tpmsClockInfo then number 8 free (λ firmware. tpmuAttest (kind .0))) (now (s .entry)) at) ⌝ }
+        ensures { λ r. ⌜ tpmsAttestAnswer r ≡ also (num magic) (also (num (kind .0)) (also (spanPart signer) (also (spanPart extra) (read (tpmsClockInfo then number 8 free (λ firmware. tpmuAttest (kind .0))) (now (s .entry)) at)))) ⌝ }
     {
         let mut end = at;
         let clock_info = match TpmsClockInfo::unmarshal(s, end) {

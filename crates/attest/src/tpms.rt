@@ -1,13 +1,13 @@
 // The structures that an attestation holds.
-use kinds::codes::TpmAlgId;
-use kinds::codes::TpmAlgIdRead;
-use kinds::limits;
-use kinds::uint::Uint8Read;
-use kinds::uint::Uint16Read;
-use kinds::uint::Uint32Read;
-use kinds::uint::uint16;
-use kinds::uint::uint32;
-use kinds::uint::yes_no;
+use format::codes::TpmAlgId;
+use format::codes::TpmAlgIdRead;
+use format::limits;
+use format::uint::Uint8Read;
+use format::uint::Uint16Read;
+use format::uint::Uint32Read;
+use format::uint::uint16;
+use format::uint::uint32;
+use format::uint::yes_no;
 use schemes::list::TpmlPcrSelection;
 use schemes::list::TpmlPcrSelectionRead;
 use wire::fault::Refusal;
@@ -19,7 +19,7 @@ use wire::span::Span;
 use wire::width::Width;
 ghost use mathlib.Core.Path.{_≡_};
 ghost use Rattle.wire.specs.Reading.{read};
-ghost use Rattle.kinds.specs.Kinds.{tpmsClockInfo, tpmsTimeInfo, tpmsCertifyInfo, tpmsCreationInfo, tpmsQuoteInfo, tpmsCommandAuditInfo, tpmsSessionAuditInfo, tpmsTimeAttestInfo, tpmsNvCertifyInfo, tpmsNvDigestCertifyInfo};
+ghost use Rattle.format.specs.Kinds.{tpmsClockInfo, tpmsTimeInfo, tpmsCertifyInfo, tpmsCreationInfo, tpmsQuoteInfo, tpmsCommandAuditInfo, tpmsSessionAuditInfo, tpmsTimeAttestInfo, tpmsNvCertifyInfo, tpmsNvDigestCertifyInfo};
 ghost use Rattle.attest.specs.Answers.{tpmsClockInfoAnswer, tpmsTimeInfoAnswer, tpmsCertifyInfoAnswer, tpmsCreationInfoAnswer, tpmsQuoteInfoAnswer, tpmsCommandAuditInfoAnswer, tpmsSessionAuditInfoAnswer, tpmsTimeAttestInfoAnswer, tpmsNvCertifyInfoAnswer, tpmsNvDigestCertifyInfoAnswer};
 
 pub struct TpmsClockInfo {

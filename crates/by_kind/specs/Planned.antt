@@ -7,8 +7,8 @@ use Rattle.wire.specs.declared.measure.Measure.{Measure}
 use Rattle.wire.specs.Layout.{Layout}
 use Rattle.wire.specs.Reading.{Part, Ans, found, refused, Parsed, parsed}
 use Rattle.wire.specs.Writing.{lay}
-use Rattle.kinds.specs.Kinds.{layoutOf, readKind}
-use Rattle.plans.specs.Lines.{lines}
+use Rattle.format.specs.Kinds.{layoutOf, readKind}
+use Rattle.wire.specs.Lines.{lines}
 use Rattle.plans.specs.Steps.{steps, Room, spell, linesOf}
 use Rattle.plans.specs.declared.plan.Plan.{Plan}
 use Rattle.by_kind.specs.declared.kind.PlanRead.{PlanRead}

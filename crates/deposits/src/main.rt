@@ -3,8 +3,8 @@
 mod again;
 
 use again::written_again;
-use kinds::uint::Uint16Read;
-use kinds::uint::uint16;
+use format::uint::Uint16Read;
+use format::uint::uint16;
 use listing::deposit::LISTING_ROOM;
 use listing::deposit::list_deposit;
 use records::kind::record_end;

@@ -18,7 +18,7 @@ use schemes::tpmt::TpmtRsaScheme;
 use schemes::tpmt::TpmtSigScheme;
 use schemes::tpmt::TpmtSymDef;
 ghost use mathlib.Core.Path.{_≡_};
-ghost use Rattle.wire.specs.Writing.{partOf, fieldOf};
+ghost use Rattle.wire.specs.Fields.{partOf, fieldOf};
 ghost use Rattle.schemes.specs.Parts.{tpmtHaParts, tpmtSymDefParts, tpmtKdfSchemeParts, tpmtKeyedhashSchemeParts, tpmtSigSchemeParts, tpmtRsaSchemeParts, tpmtEccSchemeParts, tpmtRsaDecryptParts, tpmlPcrSelectionParts};
 ghost use Rattle.keys.specs.Parts.{tpmtPublicParmsParts, tpmtSignatureParts, tpmtPublicParts, tpmtSensitiveParts};
 ghost use Rattle.attest.specs.Parts.{tpmsAttestParts};

@@ -20,7 +20,7 @@ use schemes::tpmt::TpmtSymDef;
 use wire::measure::Measure;
 ghost use mathlib.Core.Path.{_≡_};
 ghost use Rattle.wire.specs.Answers.{measureAnswer};
-ghost use Rattle.wire.specs.Writing.{sizeOf, fieldOf};
+ghost use Rattle.wire.specs.Fields.{sizeOf, fieldOf};
 ghost use Rattle.schemes.specs.Parts.{tpmtHaParts, tpmtSymDefParts, tpmtKdfSchemeParts, tpmtKeyedhashSchemeParts, tpmtSigSchemeParts, tpmtRsaSchemeParts, tpmtEccSchemeParts, tpmtRsaDecryptParts, tpmlPcrSelectionParts};
 ghost use Rattle.keys.specs.Parts.{tpmtPublicParmsParts, tpmtSignatureParts, tpmtPublicParts, tpmtSensitiveParts};
 ghost use Rattle.attest.specs.Parts.{tpmsAttestParts};

@@ -19,8 +19,9 @@ use schemes::tpmt::TpmtSigScheme;
 use schemes::tpmt::TpmtSymDef;
 ghost use mathlib.Core.Path.{_≡_};
 ghost use mathlib.Core.List.{[]};
-ghost use Rattle.wire.specs.Writing.{partOf, itemOf};
-ghost use Rattle.kinds.specs.Kinds.{tpmsPcrSelection};
+ghost use Rattle.wire.specs.Fields.{partOf};
+ghost use Rattle.wire.specs.Items.{itemOf};
+ghost use Rattle.format.specs.Kinds.{tpmsPcrSelection};
 ghost use Rattle.schemes.specs.Parts.{tpmlPcrSelectionParts};
 ghost use Rattle.flat.specs.Lists.{attestLists};
 

@@ -21,8 +21,9 @@ use wire::measure::Measure;
 ghost use mathlib.Core.Path.{_≡_};
 ghost use mathlib.Core.List.{[]};
 ghost use Rattle.wire.specs.Answers.{measureAnswer};
-ghost use Rattle.wire.specs.Writing.{sizeOf, itemOf};
-ghost use Rattle.kinds.specs.Kinds.{tpmsPcrSelection};
+ghost use Rattle.wire.specs.Fields.{sizeOf};
+ghost use Rattle.wire.specs.Items.{itemOf};
+ghost use Rattle.format.specs.Kinds.{tpmsPcrSelection};
 ghost use Rattle.schemes.specs.Parts.{tpmlPcrSelectionParts};
 ghost use Rattle.flat.specs.Lists.{attestLists};
 

@@ -9,8 +9,8 @@ use Rattle.wire.specs.Answers.{lenOf, spanPart}
 use Rattle.wire.specs.Layout.{Layout, stop}
 use Rattle.wire.specs.Reading.{Part, tag}
 use Rattle.wire.specs.Unions.{union, isArm}
-use Rattle.kinds.specs.Kinds.{tpmuHaBody}
-use Rattle.schemes.specs.Parts.{held}
+use Rattle.format.specs.Kinds.{tpmuHaArm, tpmuHaBody}
+use Rattle.wire.specs.Unions.{held}
 use Rattle.plans.specs.Steps.{Pushed, Adds, due, dueSize}
 use Rattle.plans.specs.declared.plan.Plan.{Plan}
 use Rattle.plans.specs.declared.step.Step.{Step}
@@ -36,6 +36,6 @@ module _ {p q : Plan} {c c′ : Choice} {b : Bool} {us : List Part} (v : ℕ) (s
   holds-none {h} body e is = rw e (adds-empty v body h same (told-by e) push is)
 
   -- a digest
-  pub holds-digest : {n : ℕ} {r : Plan} (s : Span) → us ≡ tag (suc (lenOf s)) ∷ spanPart s ∷ [] → n ≡ dueSize c → Pushed q (Step.Plain n s ∷ []) r
+  pub holds-digest : {n : ℕ} {r : Plan} (s : Span) → c′ ≡ tpmuHaArm v → us ≡ tag (suc (lenOf s)) ∷ spanPart s ∷ [] → n ≡ dueSize c → Pushed q (Step.Plain n s ∷ []) r
       → Adds (union c′ tpmuHaBody v) us [] 2 p r
-  holds-digest s e size more = rw e (adds-digest v s same (told-by e) push size more)
+  holds-digest s chosen e size more = rw e (adds-digest v s chosen same (told-by e) push size more)

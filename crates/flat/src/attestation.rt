@@ -2,9 +2,9 @@
 use crate::tpms::clock_info;
 use crate::tpmu;
 use attest::attestation::TpmsAttest;
-use kinds::limits;
+use format::limits;
 use plans::plan::Plan;
-ghost use Rattle.kinds.specs.Kinds.{tpmsAttest};
+ghost use Rattle.format.specs.Kinds.{tpmsAttest};
 ghost use Rattle.attest.specs.Parts.{tpmsAttestParts};
 ghost use Rattle.plans.specs.Steps.{Room, Adds};
 ghost use Rattle.flat.specs.Lists.{attestLists};

@@ -2,7 +2,7 @@
 use plans::plan::Plan;
 use plans::step::Step;
 use schemes::list::TpmlPcrSelection;
-ghost use Rattle.kinds.specs.Kinds.{tpmlPcrSelection};
+ghost use Rattle.format.specs.Kinds.{tpmlPcrSelection};
 ghost use Rattle.schemes.specs.Parts.{tpmlPcrSelectionParts};
 ghost use Rattle.plans.specs.Steps.{Room, Adds};
 

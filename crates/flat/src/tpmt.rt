@@ -1,10 +1,10 @@
 // The steps of structures with a selector: its code, and the union that it chooses from.
 use crate::tpmu;
+use format::limits;
 use keys::tpmt::TpmtPublic;
 use keys::tpmt::TpmtPublicParms;
 use keys::tpmt::TpmtSensitive;
 use keys::tpmt::TpmtSignature;
-use kinds::limits;
 use plans::plan::Plan;
 use schemes::tpmt::TpmtEccScheme;
 use schemes::tpmt::TpmtHa;
@@ -15,7 +15,7 @@ use schemes::tpmt::TpmtRsaScheme;
 use schemes::tpmt::TpmtSigScheme;
 use schemes::tpmt::TpmtSymDef;
 ghost use mathlib.Core.List.{[]};
-ghost use Rattle.kinds.specs.Kinds.{tpmtHa, tpmtSymDef, tpmtKdfScheme, tpmtKeyedhashScheme, tpmtSigScheme, tpmtAsymScheme, tpmtPublicParms, tpmtSignature, tpmtPublic, tpmtSensitive};
+ghost use Rattle.format.specs.Kinds.{tpmtHa, tpmtSymDef, tpmtKdfScheme, tpmtKeyedhashScheme, tpmtSigScheme, tpmtAsymScheme, tpmtPublicParms, tpmtSignature, tpmtPublic, tpmtSensitive};
 ghost use Rattle.schemes.specs.Parts.{tpmtHaParts, tpmtSymDefParts, tpmtKdfSchemeParts, tpmtKeyedhashSchemeParts, tpmtSigSchemeParts, tpmtRsaSchemeParts, tpmtEccSchemeParts, tpmtRsaDecryptParts};
 ghost use Rattle.keys.specs.Parts.{tpmtPublicParmsParts, tpmtSignatureParts, tpmtPublicParts, tpmtSensitiveParts};
 ghost use Rattle.plans.specs.Steps.{Room, Adds};

@@ -18,13 +18,13 @@ use crate::tpms::symcipher_parms;
 use crate::tpms::time_attest_info;
 use crate::tpmt;
 use attest::tpmu::TpmuAttest;
+use format::codes::TpmAlgId;
+use format::codes::TpmSt;
+use format::limits;
 use keys::tpmu::TpmuPublicId;
 use keys::tpmu::TpmuPublicParms;
 use keys::tpmu::TpmuSensitiveComposite;
 use keys::tpmu::TpmuSignature;
-use kinds::codes::TpmAlgId;
-use kinds::codes::TpmSt;
-use kinds::limits;
 use plans::plan::Plan;
 use plans::plan::due_size;
 use plans::step::Step;
@@ -36,7 +36,7 @@ use schemes::tpmu::TpmuSigScheme;
 use schemes::tpmu::TpmuSymKeyBits;
 use schemes::tpmu::TpmuSymMode;
 ghost use mathlib.Core.List.{[]};
-ghost use Rattle.kinds.specs.Kinds.{tpmuHa, tpmuAsymScheme, tpmuSigScheme, tpmuKeyedhashScheme, tpmuKdfScheme, tpmuSymKeyBits, tpmuSymMode, tpmuPublicParms, tpmuPublicId, tpmuSensitiveComposite, tpmuSignature, tpmuAttest};
+ghost use Rattle.format.specs.Kinds.{tpmuHa, tpmuAsymScheme, tpmuSigScheme, tpmuKeyedhashScheme, tpmuKdfScheme, tpmuSymKeyBits, tpmuSymMode, tpmuPublicParms, tpmuPublicId, tpmuSensitiveComposite, tpmuSignature, tpmuAttest};
 ghost use Rattle.schemes.specs.Parts.{tpmuHaParts, tpmuAsymSchemeParts, tpmuSigSchemeParts, tpmuKeyedhashSchemeParts, tpmuKdfSchemeParts, tpmuSymKeyBitsParts, tpmuSymModeParts};
 ghost use Rattle.keys.specs.Parts.{tpmuPublicParmsParts, tpmuPublicIdParts, tpmuSensitiveCompositeParts, tpmuSignatureParts};
 ghost use Rattle.attest.specs.Parts.{tpmuAttestParts};
@@ -50,7 +50,7 @@ pub fn ha(p: Plan, tag: TpmAlgId, x: TpmuHa) -> Plan
     requires { ⌜ Room 2 p ⌝ }
     ensures { λ r. ⌜ Adds (tpmuHa (tag .0)) (tpmuHaParts x) [] 2 p r ⌝ }
 {
-    let chosen = tag.digest_arm();
+    let chosen = tag.ha_arm();
     let q = p.due(tag.0, chosen, x.matches_tag(tag));
     match x {
         TpmuHa::Null => q,
@@ -63,7 +63,7 @@ pub fn asym_scheme(p: Plan, tag: TpmAlgId, x: TpmuAsymScheme) -> Plan
     requires { ⌜ Room 2 p ⌝ }
     ensures { λ r. ⌜ Adds (tpmuAsymScheme (tag .0)) (tpmuAsymSchemeParts x) [] 2 p r ⌝ }
 {
-    let q = p.due(tag.0, tag.asym_arm(), x.matches_tag(tag));
+    let q = p.due(tag.0, tag.asym_scheme_arm(), x.matches_tag(tag));
     match x {
         TpmuAsymScheme::Hash(h) => scheme_hash(q, h),
         TpmuAsymScheme::Null => q,
@@ -75,7 +75,7 @@ pub fn sig_scheme(p: Plan, tag: TpmAlgId, x: TpmuSigScheme) -> Plan
     requires { ⌜ Room 2 p ⌝ }
     ensures { λ r. ⌜ Adds (tpmuSigScheme (tag .0)) (tpmuSigSchemeParts x) [] 2 p r ⌝ }
 {
-    let q = p.due(tag.0, tag.sig_arm(), x.matches_tag(tag));
+    let q = p.due(tag.0, tag.sig_scheme_arm(), x.matches_tag(tag));
     match x {
         TpmuSigScheme::Hash(h) => scheme_hash(q, h),
         TpmuSigScheme::Hmac(h) => scheme_hash(q, h),
@@ -88,7 +88,7 @@ pub fn keyedhash_scheme(p: Plan, tag: TpmAlgId, x: TpmuKeyedhashScheme) -> Plan
     requires { ⌜ Room 3 p ⌝ }
     ensures { λ r. ⌜ Adds (tpmuKeyedhashScheme (tag .0)) (tpmuKeyedhashSchemeParts x) [] 3 p r ⌝ }
 {
-    let q = p.due(tag.0, tag.keyedhash_arm(), x.matches_tag(tag));
+    let q = p.due(tag.0, tag.keyedhash_scheme_arm(), x.matches_tag(tag));
     match x {
         TpmuKeyedhashScheme::Hmac(h) => scheme_hash(q, h),
         TpmuKeyedhashScheme::Xor(h) => scheme_xor(q, h),
@@ -101,7 +101,7 @@ pub fn kdf_scheme(p: Plan, tag: TpmAlgId, x: TpmuKdfScheme) -> Plan
     requires { ⌜ Room 2 p ⌝ }
     ensures { λ r. ⌜ Adds (tpmuKdfScheme (tag .0)) (tpmuKdfSchemeParts x) [] 2 p r ⌝ }
 {
-    let q = p.due(tag.0, tag.kdf_arm(), x.matches_tag(tag));
+    let q = p.due(tag.0, tag.kdf_scheme_arm(), x.matches_tag(tag));
     match x {
         TpmuKdfScheme::Mgf1(h) => scheme_hash(q, h),
         TpmuKdfScheme::Kdf1Sp800_56a(h) => scheme_hash(q, h),
@@ -116,7 +116,7 @@ pub fn sym_key_bits(p: Plan, tag: TpmAlgId, x: TpmuSymKeyBits) -> Plan
     requires { ⌜ Room 2 p ⌝ }
     ensures { λ r. ⌜ Adds (tpmuSymKeyBits (tag .0)) (tpmuSymKeyBitsParts x) [] 2 p r ⌝ }
 {
-    let q = p.due(tag.0, tag.cipher_arm(), x.matches_tag(tag));
+    let q = p.due(tag.0, tag.sym_key_bits_arm(), x.matches_tag(tag));
     match x {
         TpmuSymKeyBits::Aes(n) => q.uint16(n),
         TpmuSymKeyBits::Sm4(n) => q.uint16(n),
@@ -131,7 +131,7 @@ pub fn sym_mode(p: Plan, tag: TpmAlgId, x: TpmuSymMode) -> Plan
     requires { ⌜ Room 2 p ⌝ }
     ensures { λ r. ⌜ Adds (tpmuSymMode (tag .0)) (tpmuSymModeParts x) [] 2 p r ⌝ }
 {
-    let q = p.due(tag.0, tag.cipher_arm(), x.matches_tag(tag));
+    let q = p.due(tag.0, tag.sym_mode_arm(), x.matches_tag(tag));
     match x {
         TpmuSymMode::Aes(m) => q.algorithm(m),
         TpmuSymMode::Sm4(m) => q.algorithm(m),
@@ -148,7 +148,7 @@ pub fn public_parms(p: Plan, tag: TpmAlgId, x: TpmuPublicParms) -> Plan
     requires { ⌜ Room 13 p ⌝ }
     ensures { λ r. ⌜ Adds (tpmuPublicParms (tag .0)) (tpmuPublicParmsParts x) [] 13 p r ⌝ }
 {
-    let q = p.due(tag.0, tag.type_arm(), x.matches_tag(tag));
+    let q = p.due(tag.0, tag.public_parms_arm(), x.matches_tag(tag));
     match x {
         TpmuPublicParms::KeyedHash(y) => keyedhash_parms(q, y),
         TpmuPublicParms::SymCipher(y) => symcipher_parms(q, y),
@@ -163,7 +163,7 @@ pub fn public_id(p: Plan, tag: TpmAlgId, x: TpmuPublicId) -> Plan
     requires { ⌜ Room 3 p ⌝ }
     ensures { λ r. ⌜ Adds (tpmuPublicId (tag .0)) (tpmuPublicIdParts x) [] 3 p r ⌝ }
 {
-    let q = p.due(tag.0, tag.type_arm(), x.matches_tag(tag));
+    let q = p.due(tag.0, tag.public_id_arm(), x.matches_tag(tag));
     match x {
         TpmuPublicId::KeyedHash(s) => q.buffer(limits::MAX_DIGEST_SIZE, s),
         TpmuPublicId::SymCipher(s) => q.buffer(limits::MAX_SYM_KEY_BYTES, s),
@@ -178,7 +178,7 @@ pub fn sensitive_composite(p: Plan, tag: TpmAlgId, x: TpmuSensitiveComposite) ->
     requires { ⌜ Room 2 p ⌝ }
     ensures { λ r. ⌜ Adds (tpmuSensitiveComposite (tag .0)) (tpmuSensitiveCompositeParts x) [] 2 p r ⌝ }
 {
-    let q = p.due(tag.0, tag.sensitive_arm(), x.matches_tag(tag));
+    let q = p.due(tag.0, tag.sensitive_composite_arm(), x.matches_tag(tag));
     match x {
         TpmuSensitiveComposite::Rsa(s) => q.buffer(limits::MAX_PRIVATE_KEY_RSA, s),
         TpmuSensitiveComposite::Ecc(s) => q.buffer(limits::MAX_ECC_KEY_BYTES, s),

@@ -3,8 +3,8 @@ use mathlib.Core.Path.{refl}
 use mathlib.Core.List.{List, [], _∷_}
 use Rattle.wire.proofs.Once.{Injective, Once, number-once, span-once, both, fields, holds, bare, union, answers}
 use Rattle.wire.specs.Reading.{num}
-use Rattle.kinds.specs.Codes.{rsa, hmac, keyedHash, null, rsassa, rsapss, ecdsa, ecdaa, sm2, ecschnorr, ecc, symCipher}
-use Rattle.kinds.proofs.Once.{alg-once, curve-once}
+use Rattle.format.specs.Codes.{rsa, hmac, keyedHash, null, rsassa, rsapss, ecdsa, ecdaa, sm2, ecschnorr, ecc, symCipher}
+use Rattle.format.proofs.Once.{alg-once, curve-once}
 use Rattle.schemes.proofs.Once.{ha-once, sym-def-once, kdf-scheme-once, keyedhash-scheme-once, rsa-scheme-once, ecc-scheme-once}
 use Rattle.keys.specs.declared.tpms.TpmsKeyedhashParms.{TpmsKeyedhashParms}
 use Rattle.keys.specs.declared.tpms.TpmsSymcipherParms.{TpmsSymcipherParms}
@@ -146,13 +146,13 @@ pub public-parms-once : Once tpmtPublicParmsParts
 public-parms-once = fields (λ s. (s .«object_type», s .parameters)) (λ (a, b). record { «object_type» = a; parameters = b }) (λ s. refl) (both alg-once parms-once)
 
 pub signature-once : Once tpmtSignatureParts
-signature-once = fields (λ s. (s .«sig_alg», s .signature)) (λ (a, b). record { «sig_alg» = a; tpmtSignature = b }) (λ s. refl) (both alg-once sig-union-once)
+signature-once = fields (λ s. (s .«sig_alg», s .signature)) (λ (a, b). record { «sig_alg» = a; signature = b }) (λ s. refl) (both alg-once sig-union-once)
 
 pub public-once : Once tpmtPublicParts
 public-once = fields (λ s. (s .«object_type», (s .«name_alg», (s .«object_attributes», (s .«auth_policy», (s .parameters, s .unique)))))) (λ (a, (b, (c, (d, (e, f))))). record { «object_type» = a; «name_alg» = b; «object_attributes» = c; «auth_policy» = d; parameters = e; unique = f }) (λ s. refl) (both alg-once (both alg-once (both attributes-once (both span-once (both parms-once unique-once)))))
 
 pub sensitive-once : Once tpmtSensitiveParts
-sensitive-once = fields (λ s. (s .«sensitive_type», (s .«auth_value», (s .«seed_value», s .sensitive)))) (λ (a, (b, (c, d))). record { «sensitive_type» = a; «auth_value» = b; «seed_value» = c; tpmtSensitive = d }) (λ s. refl) (both alg-once (both span-once (both span-once composite-once)))
+sensitive-once = fields (λ s. (s .«sensitive_type», (s .«auth_value», (s .«seed_value», s .sensitive)))) (λ (a, (b, (c, d))). record { «sensitive_type» = a; «auth_value» = b; «seed_value» = c; sensitive = d }) (λ s. refl) (both alg-once (both span-once (both span-once composite-once)))
 
 -- ---- answers
 

@@ -2,7 +2,7 @@
 use mathlib.Core.List.{List, [], _∷_, _++_}
 use Rattle.wire.specs.Answers.{spanPart}
 use Rattle.wire.specs.Reading.{Part, num, tag}
-use Rattle.kinds.specs.Codes.{rsa, hmac, keyedHash, null, rsassa, rsapss, ecdsa, ecdaa, sm2, ecschnorr, ecc, symCipher}
+use Rattle.format.specs.Codes.{rsa, hmac, keyedHash, null, rsassa, rsapss, ecdsa, ecdaa, sm2, ecschnorr, ecc, symCipher}
 use Rattle.schemes.specs.Parts.{tpmtHaParts, tpmtSymDefParts, tpmtKdfSchemeParts, tpmtKeyedhashSchemeParts, tpmtRsaSchemeParts, tpmtEccSchemeParts}
 use Rattle.keys.specs.declared.tpms.TpmsKeyedhashParms.{TpmsKeyedhashParms}
 use Rattle.keys.specs.declared.tpms.TpmsSymcipherParms.{TpmsSymcipherParms}

@@ -1,13 +1,13 @@
 // The structures of keys and signatures.
-use kinds::codes::TpmAlgId;
-use kinds::codes::TpmAlgIdRead;
-use kinds::codes::TpmEccCurve;
-use kinds::codes::TpmEccCurveRead;
-use kinds::limits;
-use kinds::uint::Uint16Read;
-use kinds::uint::Uint32Read;
-use kinds::uint::uint16;
-use kinds::uint::uint32;
+use format::codes::TpmAlgId;
+use format::codes::TpmAlgIdRead;
+use format::codes::TpmEccCurve;
+use format::codes::TpmEccCurveRead;
+use format::limits;
+use format::uint::Uint16Read;
+use format::uint::Uint32Read;
+use format::uint::uint16;
+use format::uint::uint32;
 use schemes::tpmt::TpmtEccScheme;
 use schemes::tpmt::TpmtEccSchemeRead;
 use schemes::tpmt::TpmtKdfScheme;
@@ -25,7 +25,7 @@ use wire::span::Span;
 use wire::width::Width;
 ghost use mathlib.Core.Path.{_≡_};
 ghost use Rattle.wire.specs.Reading.{read};
-ghost use Rattle.kinds.specs.Kinds.{tpmtSymDef, tpmtKeyedhashScheme, tpmsRsaParms, tpmsEccParms, tpmsEccPoint, tpmsSignatureRsa, tpmsSignatureEcc};
+ghost use Rattle.format.specs.Kinds.{tpmtSymDef, tpmtKeyedhashScheme, tpmsRsaParms, tpmsEccParms, tpmsEccPoint, tpmsSignatureRsa, tpmsSignatureEcc};
 ghost use Rattle.keys.specs.Answers.{tpmsKeyedhashParmsAnswer, tpmsSymcipherParmsAnswer, tpmsRsaParmsAnswer, tpmsEccParmsAnswer, tpmsEccPointAnswer, tpmsSignatureRsaAnswer, tpmsSignatureEccAnswer};
 
 pub struct TpmsKeyedhashParms {

@@ -7,22 +7,21 @@ use crate::tpmu::TpmuSensitiveComposite;
 use crate::tpmu::TpmuSensitiveCompositeRead;
 use crate::tpmu::TpmuSignature;
 use crate::tpmu::TpmuSignatureRead;
-use kinds::codes::TpmAlgId;
-use kinds::codes::TpmAlgIdRead;
-use kinds::limits;
-use kinds::uint::Uint32Read;
-use kinds::uint::uint32;
+use format::codes::TpmAlgId;
+use format::codes::TpmAlgIdRead;
+use format::limits;
+use format::uint::Uint32Read;
+use format::uint::uint32;
 use wire::fault::Refusal;
 use wire::read::SpanRead;
 use wire::read::buffer;
 use wire::span::Span;
 use wire::width::Width;
 ghost use mathlib.Core.Path.{_≡_};
-ghost use mathlib.Core.List.{_∷_};
 ghost use Rattle.wire.specs.Answers.{spanPart};
 ghost use Rattle.wire.specs.Layout.{_then_};
-ghost use Rattle.wire.specs.Reading.{num, fronted, read};
-ghost use Rattle.kinds.specs.Kinds.{tpmtPublicParms, tpmtSignature, tpmtPublic, tpmtSensitive, tpmuPublicParms, tpmuPublicId};
+ghost use Rattle.wire.specs.Reading.{num, also, read};
+ghost use Rattle.format.specs.Kinds.{tpmtPublicParms, tpmtSignature, tpmtPublic, tpmtSensitive, tpmuPublicParms, tpmuPublicId};
 ghost use Rattle.keys.specs.Answers.{tpmtPublicParmsAnswer, tpmtSignatureAnswer, tpmtPublicAnswer, tpmtSensitiveAnswer};
 
 // The attributes of an object, as they stand.
@@ -187,7 +186,7 @@ impl TpmtPublic {
         s: &[u8],
         at: usize,
     ) -> TpmtPublicRead
-        ensures { λ r. ⌜ tpmtPublicAnswer r ≡ fronted (λ qs. num (object .0) ∷ num (naming .0) ∷ num (attributes .0) ∷ spanPart policy ∷ qs) (read (tpmuPublicParms (object .0) then tpmuPublicId (object .0)) (now (s .entry)) at) ⌝ }
+        ensures { λ r. ⌜ tpmtPublicAnswer r ≡ also (num (object .0)) (also (num (naming .0)) (also (num (attributes .0)) (also (spanPart policy) (read (tpmuPublicParms (object .0) then tpmuPublicId (object .0)) (now (s .entry)) at)))) ⌝ }
     {
         let mut end = at;
         let parameters = match TpmuPublicParms::unmarshal_tagged(object, s, end) {

@@ -13,9 +13,9 @@ use crate::tpms::TpmsSignatureRsa;
 use crate::tpms::TpmsSignatureRsaRead;
 use crate::tpms::TpmsSymcipherParms;
 use crate::tpms::TpmsSymcipherParmsRead;
-use kinds::codes::TpmAlgId;
-use kinds::limits;
-use kinds::registry;
+use format::codes::TpmAlgId;
+use format::limits;
+use format::registry;
 use schemes::tpmt::TpmtHa;
 use schemes::tpmt::TpmtHaRead;
 use wire::fault::Refusal;
@@ -26,10 +26,8 @@ use wire::widen::wide;
 use wire::width::Width;
 ghost use mathlib.Core.Path.{_≡_};
 ghost use Rattle.wire.specs.Reading.{read};
-ghost use Rattle.wire.specs.Unions.{isArm};
-ghost use Rattle.kinds.specs.Tables.{typeArm, tpmuSensitiveCompositeArm, tpmuSignatureArm};
-ghost use Rattle.kinds.specs.Kinds.{tpmuPublicParms, tpmuPublicId, tpmuSensitiveComposite, tpmuSignature};
-ghost use Rattle.schemes.specs.Parts.{held};
+ghost use Rattle.wire.specs.Unions.{isArm, held};
+ghost use Rattle.format.specs.Kinds.{tpmuPublicParmsArm, tpmuPublicIdArm, tpmuSensitiveCompositeArm, tpmuSignatureArm, tpmuPublicParms, tpmuPublicId, tpmuSensitiveComposite, tpmuSignature};
 ghost use Rattle.keys.specs.Parts.{tpmuPublicParmsParts, tpmuPublicIdParts, tpmuSensitiveCompositeParts, tpmuSignatureParts};
 ghost use Rattle.keys.specs.Answers.{tpmuPublicParmsAnswer, tpmuPublicIdAnswer, tpmuSensitiveCompositeAnswer, tpmuSignatureAnswer};
 
@@ -116,9 +114,9 @@ impl TpmuPublicId {
 
     // Whether the payload is the arm that the selector chooses.
     pub fn matches_tag(self, tag: TpmAlgId) -> bool
-        ensures { λ r. ⌜ r ≡ isArm (typeArm (tag .0)) (held (tpmuPublicIdParts self)) ⌝ }
+        ensures { λ r. ⌜ r ≡ isArm (tpmuPublicIdArm (tag .0)) (held (tpmuPublicIdParts self)) ⌝ }
     {
-        let chosen = tag.type_arm();
+        let chosen = tag.public_id_arm();
         match self {
             TpmuPublicId::KeyedHash(_) => chosen.is(registry::KEYED_HASH),
             TpmuPublicId::SymCipher(_) => chosen.is(registry::SYM_CIPHER),
@@ -170,9 +168,9 @@ impl TpmuPublicParms {
 
     // Whether the payload is the arm that the selector chooses.
     pub fn matches_tag(self, tag: TpmAlgId) -> bool
-        ensures { λ r. ⌜ r ≡ isArm (typeArm (tag .0)) (held (tpmuPublicParmsParts self)) ⌝ }
+        ensures { λ r. ⌜ r ≡ isArm (tpmuPublicParmsArm (tag .0)) (held (tpmuPublicParmsParts self)) ⌝ }
     {
-        let chosen = tag.type_arm();
+        let chosen = tag.public_parms_arm();
         match self {
             TpmuPublicParms::KeyedHash(_) => chosen.is(registry::KEYED_HASH),
             TpmuPublicParms::SymCipher(_) => chosen.is(registry::SYM_CIPHER),
@@ -225,7 +223,7 @@ impl TpmuSensitiveComposite {
     pub fn matches_tag(self, tag: TpmAlgId) -> bool
         ensures { λ r. ⌜ r ≡ isArm (tpmuSensitiveCompositeArm (tag .0)) (held (tpmuSensitiveCompositeParts self)) ⌝ }
     {
-        let chosen = tag.sensitive_arm();
+        let chosen = tag.sensitive_composite_arm();
         match self {
             TpmuSensitiveComposite::Rsa(_) => chosen.is(registry::RSA),
             TpmuSensitiveComposite::Ecc(_) => chosen.is(registry::ECC),

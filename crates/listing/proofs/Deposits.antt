@@ -1,7 +1,7 @@
 -- From what is answered of a record to its listing. Assumes nothing.
 use Prim.Native.Nat.{ℕ, _+_, _*_, _-_, _≤_, _<_}
 use native.Mathlib.Omega.{arith}
-use borrow.Author.Tests.{le-leb, lt-leb, lt-ltb}
+use borrow.Author.Tests.{le-leb, lt-leb}
 use mathlib.Core.Path.{_≡_, refl, sym, ap, _∙_}
 use mathlib.Core.Bool.{Bool, true, false, cond}
 use mathlib.Core.List.{List, [], _∷_, _++_}
@@ -12,18 +12,20 @@ use Rattle.wire.specs.declared.fault.Refusal.{Refusal}
 use Rattle.wire.specs.declared.measure.Measure.{Measure}
 use Rattle.wire.specs.Bytes.{Bytes}
 use Rattle.wire.specs.Faults.{paper, noRoom, badKind, oversize}
-use Rattle.wire.specs.Reading.{Part, found, refused, when, Parsed, parsed, read}
-use Rattle.wire.specs.Writing.{lay, partOf}
+use Rattle.wire.specs.Reading.{Ans, Part, found, refused, Parsed, parsed, read}
+use Rattle.wire.specs.Writing.{lay}
+use Rattle.wire.specs.Fields.{partOf}
 use Rattle.wire.specs.Answers.{measureAnswer}
 use Rattle.wire.proofs.Rest.{told}
 use Rattle.wire.proofs.Steps.{found-refused, found-same, when-found}
 use Rattle.wire.proofs.Written.{read-then-lay}
-use Rattle.kinds.specs.Kinds.{isKind, layoutOf, readKind}
+use Rattle.format.specs.Kinds.{isKind, layoutOf, readKind}
 use Rattle.plans.specs.declared.plan.Plan.{Plan}
-use Rattle.plans.specs.Lines.{lines}
+use Rattle.wire.specs.Lines.{lines}
 use Rattle.plans.specs.Steps.{steps, Room, spell, linesOf}
-use Rattle.plans.specs.Walked.{Legal, Puts}
-use Rattle.plans.proofs.Putting.{puts-length}
+use Rattle.plans.specs.Walked.{Legal}
+use Rattle.text.specs.Puts.{Puts}
+use Rattle.text.proofs.Putting.{puts-length}
 use Rattle.records.proofs.Rewritten.{read-record-lies-in-its-source}
 use Rattle.by_kind.specs.Planned.{Planned}
 use Rattle.by_kind.specs.declared.kind.PlanRead.{PlanRead}
@@ -32,10 +34,6 @@ use Rattle.text.proofs.Rows.{puts-both, puts-same, read-text-length, refused-te
 use Rattle.listing.specs.Listing.{judged, answerText, recordText, listing, Lists}
 
 -- ---- what is answered
-
--- a number from 1 to 14 is a kind
-pub is-kind : (k : ℕ) → 0 < k → k ≤ 14 → isKind k ≡ true
-is-kind k some most = rw (lt-ltb 0 k some, le-leb k 14 most)
 
 pub no-kind-unread : (k : ℕ) {j : ℕ} {f : Refusal} → f ≡ badKind j → j ≡ k → isKind k ≡ false → f ≡ cond (isKind k) oversize (badKind k)
 no-kind-unread k e same none = rw (none, e, same)
@@ -56,7 +54,7 @@ pub judged-unread : (k : ℕ) (bs : List ℕ) → 4096 < length bs → judged k 
 unfolding judged
 judged-unread k bs many = rw (lt-leb (length bs) 4096 many) (by (isKind k))
   where
-    by : (b : Bool) → when {A = Parsed} b (refused oversize) (refused (badKind k)) ≡ refused (cond b oversize (badKind k))
+    by : (b : Bool) → cond {A = Ans Parsed} b (refused oversize) (refused (badKind k)) ≡ refused (cond b oversize (badKind k))
     by true = refl
     by false = refl
 

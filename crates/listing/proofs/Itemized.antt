@@ -15,17 +15,17 @@ use Rattle.wire.specs.Reading.{Part, num, tag, span, found, refused, next, left
 use Rattle.wire.specs.Writing.{whole}
 use Rattle.wire.proofs.Steps.{found-same, parsed-same, next-found, when-found}
 use Rattle.wire.proofs.Cuts.{cut-length}
-use Rattle.kinds.specs.Codes.{alg}
-use Rattle.kinds.specs.Kinds.{tpmsPcrSelection}
+use Rattle.format.specs.Codes.{alg}
+use Rattle.format.specs.Kinds.{tpmsPcrSelection}
 use Rattle.schemes.specs.declared.tpms.TpmsPcrSelection.{TpmsPcrSelection}
 use Rattle.schemes.specs.Parts.{tpmsPcrSelectionParts}
 use Rattle.plans.specs.declared.step.Step.{Step}
-use Rattle.plans.specs.declared.step.Word.{Word}
+use Rattle.text.specs.declared.line.Word.{Word}
 use Rattle.plans.specs.Steps.{stepLines}
-use Rattle.plans.specs.Lines.{Line, line, aCode, aNumber, spanLine, lines, itemLines}
-use Rattle.plans.specs.Walked.{Puts}
+use Rattle.wire.specs.Lines.{Line, line, aCode, aNumber, spanLine, lines, itemLines}
+use Rattle.text.specs.Puts.{Puts}
 use Rattle.plans.proofs.Items.{item-ends}
-use Rattle.plans.proofs.Putting.{puts-then, puts-none}
+use Rattle.text.proofs.Putting.{puts-then, puts-none}
 use Rattle.text.specs.Text.{lineText, linesText}
 use Rattle.text.proofs.Rows.{number-line-length, bytes-line-length}
 use Rattle.listing.proofs.Parts.{text-append, item-text}

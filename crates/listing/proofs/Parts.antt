@@ -8,14 +8,15 @@ use lib.Dec.{leb}
 use borrow.Author.Tests.{le-leb, leb-true}
 use Rattle.wire.specs.declared.span.Span.{Span}
 use Rattle.wire.specs.Answers.{startOf, lenOf, spanPart}
-use Rattle.wire.specs.Writing.{cut, whole, partOf}
+use Rattle.wire.specs.Writing.{cut, whole}
+use Rattle.wire.specs.Fields.{partOf}
 use Rattle.wire.proofs.Steps.{when-found}
 use Rattle.wire.proofs.Cuts.{cut-length}
 use Rattle.wire.specs.Reading.{num, found}
 use Rattle.listing.specs.Listable.{IsSelections}
-use Rattle.kinds.specs.Kinds.{tpmsPcrSelection}
-use Rattle.plans.specs.Lines.{Line, line, aCode, aNumber, theBytes, spanLine, lines}
-use Rattle.plans.specs.declared.step.Word.{Word}
+use Rattle.format.specs.Kinds.{tpmsPcrSelection}
+use Rattle.wire.specs.Lines.{Line, line, aCode, aNumber, theBytes, spanLine, lines}
+use Rattle.text.specs.declared.line.Word.{Word}
 use Rattle.text.specs.Text.{lineText, linesText}
 use Rattle.text.proofs.Rows.{number-line-length, bytes-line-length}
 

@@ -8,20 +8,23 @@ use lib.Dec.{leb}
 use Rattle.wire.specs.Answers.{widthOf, startOf, lenOf}
 use Rattle.wire.specs.Bytes.{digits}
 use Rattle.wire.specs.Reading.{found}
-use Rattle.wire.specs.Writing.{cut, whole, partOf}
+use Rattle.wire.specs.Writing.{cut, whole}
+use Rattle.wire.specs.Fields.{partOf}
 use Rattle.wire.proofs.Digits.{length-digits}
 use Rattle.wire.proofs.Cuts.{cut-length}
 use Rattle.wire.proofs.Steps.{next-found, when-found}
 use Rattle.wire.proofs.Then.{whole-same}
 use Rattle.wire.proofs.Written.{moved-found}
-use Rattle.kinds.specs.Kinds.{tpmsPcrSelection}
+use Rattle.format.specs.Kinds.{tpmsPcrSelection}
 use Rattle.plans.specs.declared.step.Step.{Step}
 use Rattle.plans.specs.declared.plan.Cell.{Cell}
-use Rattle.plans.specs.Lines.{Line}
+use Rattle.wire.specs.Lines.{Line}
 use Rattle.plans.specs.Steps.{spell, spellStep, laid, stepLines, linesOf}
-use Rattle.plans.specs.Walked.{Inside, Legal, Puts}
+use Rattle.plans.specs.Walked.{Inside, Legal}
+use Rattle.text.specs.Puts.{Puts}
 use Rattle.plans.proofs.Loops.{blank, from, from-cons, from-none}
-use Rattle.plans.proofs.Putting.{next-step, puts-then, puts-none, puts-length}
+use Rattle.plans.proofs.Putting.{next-step}
+use Rattle.text.proofs.Putting.{puts-then, puts-none, puts-length}
 use Rattle.text.specs.Text.{linesText}
 use Rattle.listing.specs.Listable.{Listable, stepSize, Asked}
 use Rattle.listing.proofs.Parts.{text-append}

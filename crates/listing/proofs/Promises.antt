@@ -15,10 +15,9 @@ use Rattle.wire.specs.Grammar.{Token, Spells, placed}
 use Rattle.wire.specs.Reading.{refused, parsed, read, field, piece}
 use Rattle.wire.specs.Refusals.{Refuses}
 use Rattle.wire.proofs.Answers.{measure-answer-once}
-use Rattle.kinds.specs.Codes.{isAlgorithm, algorithms}
-use Rattle.kinds.specs.Tables.{cipherArm}
-use Rattle.kinds.specs.Kinds.{isKind, kinds, tpmtSymDef, tpmuSymKeyBits, tpmuSymMode, layoutOf, readKind}
-use Rattle.plans.specs.Lines.{lines}
+use Rattle.format.specs.Codes.{isAlgorithm, algorithms}
+use Rattle.format.specs.Kinds.{tpmuSymKeyBitsArm, tpmuSymModeArm, isKind, kinds, tpmtSymDef, tpmuSymKeyBits, tpmuSymMode, layoutOf, readKind}
+use Rattle.wire.specs.Lines.{lines}
 use Rattle.records.proofs.Promises.{legal-is-read, first-is-refusal}
 use Rattle.text.specs.Ascii.{ascii}
 use Rattle.text.specs.Text.{decimal, linesText, readText, refusedText}
@@ -88,9 +87,9 @@ module _ (k : ℕ) where
 
 -- the format's example
 pub example-is-listed : listing (2 ∷ 0 ∷ 6 ∷ 0 ∷ 128 ∷ 0 ∷ 67 ∷ []) ≡ ascii "kind 2 read 6 tail 0\n0 2 code 6\n2 2 number 128\n4 2 code 67\n"
-unfolding listing recordText judged read layoutOf kinds tpmtSymDef field piece isAlgorithm algorithms be _then_ tpmuSymKeyBits cipherArm tpmuSymMode decimal lines
+unfolding listing recordText judged read layoutOf kinds tpmtSymDef field piece isAlgorithm algorithms be _then_ tpmuSymKeyBits tpmuSymKeyBitsArm tpmuSymModeArm tpmuSymMode decimal lines
 example-is-listed = refl
 
 pub cut-example-is-listed : listing (2 ∷ 0 ∷ 6 ∷ 0 ∷ 128 ∷ []) ≡ ascii "kind 2 refused 1 at 4 value 2\n"
-unfolding listing recordText judged read layoutOf kinds tpmtSymDef field piece isAlgorithm algorithms be _then_ tpmuSymKeyBits cipherArm tpmuSymMode decimal
+unfolding listing recordText judged read layoutOf kinds tpmtSymDef field piece isAlgorithm algorithms be _then_ tpmuSymKeyBits tpmuSymKeyBitsArm tpmuSymModeArm tpmuSymMode decimal
 cut-example-is-listed = refl

@@ -6,8 +6,9 @@ use lib.ListN.{length}
 use Rattle.wire.specs.declared.span.Span.{Span}
 use Rattle.wire.specs.Answers.{widthOf, startOf, lenOf}
 use Rattle.wire.specs.Reading.{found}
-use Rattle.wire.specs.Writing.{cut, whole, partOf}
-use Rattle.kinds.specs.Kinds.{tpmsPcrSelection}
+use Rattle.wire.specs.Writing.{cut, whole}
+use Rattle.wire.specs.Fields.{partOf}
+use Rattle.format.specs.Kinds.{tpmsPcrSelection}
 use Rattle.plans.specs.declared.step.Step.{Step}
 
 -- the span shows a selection list of src, and nothing else

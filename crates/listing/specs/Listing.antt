@@ -8,16 +8,16 @@ use lib.Dec.{leb}
 use Rattle.wire.specs.declared.measure.Measure.{Measure}
 use Rattle.wire.specs.Answers.{measureAnswer}
 use Rattle.wire.specs.Faults.{paper, noRoom, badKind, oversize}
-use Rattle.wire.specs.Reading.{Ans, found, refused, when, Parsed, read}
-use Rattle.kinds.specs.Kinds.{isKind, layoutOf}
-use Rattle.plans.specs.Lines.{lines}
+use Rattle.wire.specs.Reading.{Ans, found, refused, Parsed, read}
+use Rattle.format.specs.Kinds.{isKind, layoutOf}
+use Rattle.wire.specs.Lines.{lines}
 use Rattle.text.specs.Text.{linesText, readText, refusedText}
 
 -- what is answered of a record: a number that is no kind is refused first, then more than 4,096 bytes, and what is left is read
 unfoldable pub judged : (kind : ℕ) (bytes : List ℕ) → Ans Parsed
 judged k bs =
-    when (isKind k)
-    (when (leb (length bs) 4096)
+    cond (isKind k)
+    (cond (leb (length bs) 4096)
     (read (layoutOf k) bs 0)
     (refused oversize))
     (refused (badKind k))
@@ -40,7 +40,7 @@ listing (k ∷ bs) = recordText k bs
 -- What is owed to whoever has a deposit listed into a lent slice, which held old before and holds last now; r was answered
 pub record Lists (deposit old : List ℕ) (r : Measure) (last : List ℕ) : Type 0 where
   -- how long the listing is, or that the slice is smaller than what every listing fits into
-  pub answer : measureAnswer r ≡ when (leb 98304 (length old)) (found (length (listing deposit))) (refused (noRoom 0 98304))
+  pub answer : measureAnswer r ≡ cond (leb 98304 (length old)) (found (length (listing deposit))) (refused (noRoom 0 98304))
   -- the listing and then what was there, or all that was there
   pub buffer : last ≡ cond (leb 98304 (length old)) (listing deposit ++ drop (length (listing deposit)) old) old
   -- where there is room, no listing is longer

@@ -10,8 +10,8 @@ ghost use mathlib.Core.Bool.{cond};
 ghost use Prim.Native.Nat.{_≤_};
 ghost use lib.ListN.{length};
 ghost use Rattle.wire.specs.Faults.{badKind, oversize};
-ghost use Rattle.kinds.specs.Kinds.{isKind};
-ghost use Rattle.plans.specs.Walked.{Puts};
+ghost use Rattle.format.specs.Kinds.{isKind};
+ghost use Rattle.text.specs.Puts.{Puts};
 ghost use Rattle.listing.specs.Listing.{recordText, Lists};
 
 // A slice of so many bytes has room for every listing.

@@ -1,10 +1,10 @@
 // The lines of a PCR selection list: its count, then each item's algorithm, size and bits.
-use kinds::uint::Uint32Read;
-use kinds::uint::uint32;
+use format::uint::Uint32Read;
+use format::uint::uint32;
 use plans::step::Step;
-use plans::step::Word;
 use schemes::tpms::TpmsPcrSelection;
 use schemes::tpms::TpmsPcrSelectionRead;
+use text::line::Word;
 use text::line::put_bytes_line;
 use text::line::put_number_line;
 use wire::span::Span;
@@ -14,11 +14,11 @@ ghost use Prim.Native.Nat.{_+_, _*_, _≤_};
 ghost use lib.ListN.{length};
 ghost use Rattle.wire.specs.Answers.{startOf, lenOf};
 ghost use Rattle.wire.specs.Reading.{read};
-ghost use Rattle.kinds.specs.Kinds.{tpmsPcrSelection};
+ghost use Rattle.format.specs.Kinds.{tpmsPcrSelection};
 ghost use Rattle.schemes.specs.Parts.{tpmsPcrSelectionParts};
-ghost use Rattle.plans.specs.Lines.{lines, itemLines};
+ghost use Rattle.wire.specs.Lines.{lines, itemLines};
 ghost use Rattle.plans.specs.Steps.{stepLines};
-ghost use Rattle.plans.specs.Walked.{Puts};
+ghost use Rattle.text.specs.Puts.{Puts};
 ghost use Rattle.text.specs.Text.{linesText};
 ghost use Rattle.listing.specs.Listable.{IsSelections};
 

@@ -2,7 +2,7 @@
 use crate::item::put_list_lines;
 use plans::plan::Plan;
 use plans::step::Step;
-use plans::step::Word;
+use text::line::Word;
 use text::line::put_bytes_line;
 use text::line::put_number_line;
 use wire::span::Span;
@@ -11,10 +11,11 @@ ghost use mathlib.Core.List.{_∷_, []};
 ghost use Prim.Native.Nat.{_+_, _*_, _≤_};
 ghost use lib.ListN.{length};
 ghost use Rattle.wire.specs.Answers.{startOf, lenOf};
-ghost use Rattle.plans.specs.Lines.{line, aNumber, spanLine};
-ghost use Rattle.wire.specs.Writing.{partOf};
+ghost use Rattle.wire.specs.Lines.{line, aNumber, spanLine};
+ghost use Rattle.wire.specs.Fields.{partOf};
 ghost use Rattle.plans.specs.Steps.{steps, spell, Room, stepLines, linesOf};
-ghost use Rattle.plans.specs.Walked.{Legal, Puts};
+ghost use Rattle.plans.specs.Walked.{Legal};
+ghost use Rattle.text.specs.Puts.{Puts};
 ghost use Rattle.text.specs.Text.{linesText};
 ghost use Rattle.listing.specs.Listable.{stepSize, Asked};
 

@@ -12,7 +12,9 @@ use Rattle.wire.specs.declared.span.Span.{Span}
 use Rattle.wire.specs.Answers.{startOf, lenOf, spanPart}
 use Rattle.wire.specs.Faults.{noField, noRoom}
 use Rattle.wire.specs.Reading.{Part, Ans, found, refused}
-use Rattle.wire.specs.Writing.{cut, written, filled, pickField, partOf, sizeOf}
+use Rattle.wire.specs.Writing.{cut}
+use Rattle.wire.specs.Filling.{written, filled}
+use Rattle.wire.specs.Fields.{pickField, partOf, sizeOf}
 use Rattle.wire.proofs.Steps.{found-refused, found-same}
 use Rattle.plans.specs.Steps.{spansOf}
 use Rattle.plans.specs.Walked.{Legal, placeAhead}

@@ -18,7 +18,9 @@ use Rattle.wire.specs.Layout.{one, free}
 use mathlib.Core.Logic.{_⊎_, inl, inr, ⊎-elim}
 use Rattle.wire.specs.Reading.{Part, num, tag, span, Ans, found, refused, next, left, Parsed, parsed, Reader, piece, field, list, read}
 use Rattle.wire.specs.Grammar.{Token, Spells, says}
-use Rattle.wire.specs.Writing.{cut, whole, moved, pickField, pickItem, itemOf, partOf}
+use Rattle.wire.specs.Writing.{cut, whole, moved}
+use Rattle.wire.specs.Fields.{pickField, partOf}
+use Rattle.wire.specs.Items.{pickItem, itemOf}
 use Rattle.wire.proofs.Digits.{length-digits}
 use Rattle.wire.proofs.Steps.{found-refused, found-same, refused-same, parsed-same, next-found, when-found}
 use Rattle.wire.proofs.Stand.{stands-left}
@@ -26,7 +28,7 @@ use Rattle.wire.proofs.Sound.{read-sound}
 use Rattle.wire.proofs.Cuts.{cut-length}
 use Rattle.wire.proofs.Then.{whole-same}
 use Rattle.wire.proofs.Written.{moved-found}
-use Rattle.kinds.specs.Kinds.{tpmsPcrSelection}
+use Rattle.format.specs.Kinds.{tpmsPcrSelection}
 use Rattle.plans.specs.Steps.{spellStep, listsOf}
 use Rattle.plans.specs.Walked.{after, placeAhead}
 use Rattle.plans.specs.declared.step.Step.{Step}

@@ -12,15 +12,16 @@ use Rattle.wire.specs.Answers.{widthOf, startOf, lenOf}
 use Rattle.wire.specs.Bytes.{digits}
 use Rattle.wire.specs.Faults.{refusal, mismatch, tooLong, trailing}
 use Rattle.wire.specs.Reading.{found, refused, list, read}
-use Rattle.wire.specs.Writing.{cut, spelt, whole, further, partOf, sizeOf}
+use Rattle.wire.specs.Writing.{cut, spelt, whole, further}
+use Rattle.wire.specs.Fields.{partOf, sizeOf}
 use Rattle.wire.proofs.Digits.{length-digits}
 use Rattle.wire.proofs.Steps.{found-same}
 use Rattle.wire.proofs.Cuts.{sized-part, unsized}
 use Rattle.wire.proofs.Written.{cut-found}
-use Rattle.kinds.specs.Kinds.{tpmsPcrSelection}
+use Rattle.format.specs.Kinds.{tpmsPcrSelection}
 use Rattle.plans.specs.Steps.{spellStep}
 use Rattle.plans.specs.Walked.{after}
-use Rattle.plans.specs.declared.step.Word.{Word}
+use Rattle.text.specs.declared.line.Word.{Word}
 use Rattle.plans.specs.declared.step.Step.{Step}
 
 pub number-good : (k : Word) (w : Width) (n : ℕ) (src : List ℕ) (at : ℕ) {m : ℕ} → m ≡ widthOf w → found (at + m) ≡ after at (spellStep (Step.Number k w n) src at)

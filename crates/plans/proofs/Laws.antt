@@ -2,7 +2,7 @@
 use Prim.Native.Nat.{ℕ, zero, suc, _+_, _^_, _≤_, _<_}
 use native.Mathlib.Omega.{arith}
 use mathlib.Core.Path.{_≡_, refl, sym, ap, _∙_}
-use mathlib.Core.Bool.{Bool, true, false, false≢true}
+use mathlib.Core.Bool.{Bool, true, false, false≢true, cond}
 use mathlib.Core.List.{List, [], _∷_, _++_, append-assoc}
 use lib.ListN.{length, take, drop, length-append}
 use lib.Dec.{eqb}
@@ -16,20 +16,23 @@ use Rattle.wire.specs.Bytes.{digits}
 use Rattle.wire.specs.Faults.{refusal, mismatch}
 use Rattle.wire.specs.Layout.{Rule, free, listed, fixed, lengthTo, countTo, allows, breach, Layout, stop, arm, number, plain, buffer, counted, _then_}
 use Rattle.wire.specs.Reading.{Part, num, tag, span, Ans, found, refused, next}
-use Rattle.wire.specs.Writing.{cut, spelt, whole, moved, ahead, onto, lay, spans}
+use Rattle.wire.specs.Writing.{cut, spelt, whole, moved, ahead, onto, lay}
+use Rattle.wire.specs.Fields.{spans}
 use Rattle.wire.specs.Unions.{union, isArm}
 use Rattle.wire.proofs.Digits.{length-digits}
 use Rattle.wire.proofs.Steps.{found-refused, found-same, next-found, when-found}
 use Rattle.wire.proofs.Then.{onto-none, onto-onto, lay-then, shaped-then, whole-same}
 use Rattle.wire.proofs.Written.{spelt-found, cut-found, moved-found}
-use Rattle.kinds.specs.Kinds.{tpmsPcrSelection, tpmuHaBody}
-use Rattle.plans.specs.Steps.{steps, wordOf, laid, stepLines, linesOf, spell, spellStep, spansOf, listsOf, Pushed, Plans, Adds, numberStep, pickStep, Numbered, due, dueSize, unless}
-use Rattle.plans.specs.Lines.{line, aNumber, spanLine, sayNumber, lines}
+use Rattle.format.specs.Kinds.{tpmsPcrSelection, tpmuHaArm, tpmuHaBody}
+use Rattle.format.proofs.Tables.{digest-body}
+use Rattle.plans.specs.Steps.{steps, wordOf, laid, stepLines, linesOf, spell, spellStep, spansOf, listsOf, Pushed, Plans, Adds, numberStep, Numbered, due, dueSize, unless}
+use Rattle.wire.specs.Lines.{line, aNumber, spanLine, sayNumber, lines}
 use Rattle.plans.specs.declared.plan.Plan.{Plan}
-use Rattle.plans.specs.declared.step.Word.{Word}
+use Rattle.text.specs.declared.line.Word.{Word}
 use Rattle.plans.specs.declared.step.Step.{Step}
 use Rattle.plans.proofs.Putting.{next-step}
-use Rattle.plans.proofs.Shown.{word-says, number-goes, plain-goes, buffer-goes, counted-goes, lines-then}
+use Rattle.plans.proofs.Shown.{word-says}
+use Rattle.wire.proofs.Shown.{number-goes, plain-goes, buffer-goes, counted-goes, lines-then}
 use Rattle.plans.proofs.Pushed.{pushed-none, pushed-on}
 
 -- ---- steps in a row
@@ -113,22 +116,22 @@ placed (lengthTo m) n at = refl
 placed (countTo m) n at = refl
 
 number-lays : (b : Bool) (c : Word) (w : Width) (r : Rule) (n : ℕ) (k : ℕ → Layout) {ps ls : List Part} {ss : List Step} → allows r n ≡ b → n < 256 ^ widthOf w → Plans (k n) ps ls ss
-    → (src : List ℕ) (at : ℕ) → lay (number (widthOf w) r k) (num n ∷ ps) src at ≡ spell (pickStep b (Step.Number c w n) (Step.Fails (breach r 0 n)) ∷ ss) src at
+    → (src : List ℕ) (at : ℕ) → lay (number (widthOf w) r k) (num n ∷ ps) src at ≡ spell (cond b (Step.Number c w n) (Step.Fails (breach r 0 n)) ∷ ss) src at
 unfolding lay spelt spell spellStep
 number-lays true c w r n k {ps} t h rest src at = rw (t, lt-ltb n (256 ^ widthOf w) h, rest .lays src (at + widthOf w), length-digits (widthOf w) n)
 number-lays false c w r n k t h rest src at = rw t (ap refused (placed r n at))
 
-number-fields : (b : Bool) (c : Word) (w : Width) (n : ℕ) (f : Refusal) (ss : List Step) → spansOf (pickStep b (Step.Number c w n) (Step.Fails f) ∷ ss) ≡ spansOf ss
+number-fields : (b : Bool) (c : Word) (w : Width) (n : ℕ) (f : Refusal) (ss : List Step) → spansOf (cond b (Step.Number c w n) (Step.Fails f) ∷ ss) ≡ spansOf ss
 number-fields true c w n f ss = refl
 number-fields false c w n f ss = refl
 
-number-lists : (b : Bool) (c : Word) (w : Width) (n : ℕ) (f : Refusal) (ss : List Step) → listsOf (pickStep b (Step.Number c w n) (Step.Fails f) ∷ ss) ≡ listsOf ss
+number-lists : (b : Bool) (c : Word) (w : Width) (n : ℕ) (f : Refusal) (ss : List Step) → listsOf (cond b (Step.Number c w n) (Step.Fails f) ∷ ss) ≡ listsOf ss
 number-lists true c w n f ss = refl
 number-lists false c w n f ss = refl
 
 number-shows : (b : Bool) (w : Width) (r : Rule) (n : ℕ) (k : ℕ → Layout) {ps ls : List Part} {ss : List Step} → allows r n ≡ b → Plans (k n) ps ls ss
     → (src : List ℕ) (at : ℕ) {bs : List ℕ} → lay (number (widthOf w) r k) (num n ∷ ps) src at ≡ found bs
-    → linesOf (pickStep b (Step.Number (wordOf r) w n) (Step.Fails (breach r 0 n)) ∷ ss) src at ≡ lines (number (widthOf w) r k) (num n ∷ ps) src at
+    → linesOf (cond b (Step.Number (wordOf r) w n) (Step.Fails (breach r 0 n)) ∷ ss) src at ≡ lines (number (widthOf w) r k) (num n ∷ ps) src at
 unfolding linesOf lines
 number-shows true w r n k {ps} t rest src at p =
     rw (word-says r n, length-digits (widthOf w) n) (ap (λ x. line at (widthOf w) (sayNumber r n) ∷ x) (rest .shows src (at + widthOf w) (number-goes ps src at (widthOf w) n r k p .1 .laid)))
@@ -282,13 +285,16 @@ plans-due {ps} {ss = ss} v (Choice.The t) h body a =
       shows = due-shows (eqb h t) v h t body refl (a .if-chosen);
     }
 
--- a digest is the arm by its length
-digest-arm : (c : Choice) (s : Span) → Arm c (suc (lenOf s)) (tpmuHaBody (suc (lenOf s))) (spanPart s ∷ []) [] (Step.Plain (dueSize c) s ∷ [])
-digest-arm Choice.Nothing s = record { if-chosen = λ t. absurd (false≢true t); fields = refl; lists = refl }
-digest-arm (Choice.The zero) s = record { if-chosen = λ t. absurd (let e = eqb-true (suc (lenOf s)) 0 t in omega arith); fields = refl; lists = refl }
-digest-arm (Choice.The (suc n)) s =
+-- a digest is the arm by its length; v is the selector
+digest-arm : (v : ℕ) (c : Choice) → c ≡ tpmuHaArm v → (s : Span) → Arm c (suc (lenOf s)) (tpmuHaBody (suc (lenOf s))) (spanPart s ∷ []) [] (Step.Plain (dueSize c) s ∷ [])
+digest-arm v Choice.Nothing chosen s = record { if-chosen = λ t. absurd (false≢true t); fields = refl; lists = refl }
+digest-arm v (Choice.The zero) chosen s = record { if-chosen = λ t. absurd (let e = eqb-true (suc (lenOf s)) 0 t in omega arith); fields = refl; lists = refl }
+digest-arm v (Choice.The (suc n)) chosen s =
     record {
-      if-chosen = λ t. let e : n ≡ lenOf s = omega (arith, eqb-true (suc (lenOf s)) (suc n) t) in rw e (plans-plain s plans-none);
+      if-chosen = λ t.
+          let e : n ≡ lenOf s = omega (arith, eqb-true (suc (lenOf s)) (suc n) t) in
+          let body : tpmuHaBody (suc (lenOf s)) ≡ plain (lenOf s) stop = digest-body v (sym chosen ∙ ap (λ k. Choice.The (suc k)) e) in
+          rw (body, e) (plans-plain s plans-none);
       fields = refl;
       lists = refl;
     }
@@ -356,10 +362,10 @@ module _ {p q : Plan} {c c′ : Choice} {b : Bool} (v : ℕ) (body : ℕ → Lay
   adds-empty e = adds-arm e (adds-none q (push .all))
 
 -- a digest
-pub adds-digest : {p q r : Plan} {n : ℕ} {c c′ : Choice} {b : Bool} (v : ℕ) (s : Span) → c ≡ c′ → b ≡ isArm c′ (suc (lenOf s)) → Pushed p (due v c b) q → n ≡ dueSize c → Pushed q (Step.Plain n s ∷ []) r
+pub adds-digest : {p q r : Plan} {n : ℕ} {c c′ : Choice} {b : Bool} (v : ℕ) (s : Span) → c′ ≡ tpmuHaArm v → c ≡ c′ → b ≡ isArm c′ (suc (lenOf s)) → Pushed p (due v c b) q → n ≡ dueSize c → Pushed q (Step.Plain n s ∷ []) r
     → Adds (union c′ tpmuHaBody v) (tag (suc (lenOf s)) ∷ spanPart s ∷ []) [] 2 p r
-adds-digest {c′ = c′} v s same held push size more =
-    adds-by v tpmuHaBody (suc (lenOf s)) same held push (Step.Plain (dueSize c′) s ∷ []) (rw (size, same) at more) (digest-arm c′ s) (omega arith)
+adds-digest {c′ = c′} v s chosen same held push size more =
+    adds-by v tpmuHaBody (suc (lenOf s)) same held push (Step.Plain (dueSize c′) s ∷ []) (rw (size, same) at more) (digest-arm v c′ chosen s) (omega arith)
 
 -- at most so many steps are at most more
 pub adds-more : {l : Layout} {ps ls : List Part} {j k : ℕ} {p r : Plan} → j ≤ k → Adds l ps ls j p r → Adds l ps ls k p r

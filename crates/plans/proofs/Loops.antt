@@ -10,11 +10,12 @@ use lib.Seq.{drop-cons, length-take-le, getD-take, drop-length}
 use Rattle.wire.specs.declared.fault.Refusal.{Refusal}
 use Rattle.wire.specs.declared.width.Width.{Width}
 use Rattle.wire.specs.Reading.{Ans, found, refused, next}
-use Rattle.wire.specs.Writing.{onto, sizeOf}
+use Rattle.wire.specs.Writing.{onto}
+use Rattle.wire.specs.Fields.{sizeOf}
 use Rattle.wire.proofs.Steps.{found-refused, found-same}
 use Rattle.plans.specs.Steps.{stepsFrom, spell, spellStep}
 use Rattle.plans.specs.Walked.{after}
-use Rattle.plans.specs.declared.step.Word.{Word}
+use Rattle.text.specs.declared.line.Word.{Word}
 use Rattle.plans.specs.declared.step.Step.{Step}
 use Rattle.plans.specs.declared.plan.Cell.{Cell}
 

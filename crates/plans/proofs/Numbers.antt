@@ -2,7 +2,7 @@
 use Prim.Native.Nat.{ℕ, zero, suc, _^_, _<_}
 use native.Mathlib.Omega.{arith}
 use mathlib.Core.Path.{_≡_, refl}
-use mathlib.Core.Bool.{Bool}
+use mathlib.Core.Bool.{Bool, cond}
 use mathlib.Core.List.{[], _∷_}
 use lib.Dec.{leb}
 use borrow.Author.Tests.{lt-leb, ne-eqb}
@@ -10,14 +10,14 @@ use Rattle.wire.specs.declared.fault.Refusal.{Refusal}
 use Rattle.wire.specs.declared.width.Width.{Width}
 use Rattle.wire.specs.Answers.{widthOf}
 use Rattle.wire.specs.Layout.{Rule, allows, breach}
-use Rattle.kinds.specs.Codes.{isYesNo}
-use Rattle.plans.specs.Steps.{Pushed, Numbered, pickStep, wordOf}
+use Rattle.format.specs.Codes.{isYesNo}
+use Rattle.plans.specs.Steps.{Pushed, Numbered, wordOf}
 use Rattle.plans.specs.declared.plan.Plan.{Plan}
-use Rattle.plans.specs.declared.step.Word.{Word}
+use Rattle.text.specs.declared.line.Word.{Word}
 use Rattle.plans.specs.declared.step.Step.{Step}
 
 pub numbered : {p r : Plan} {n m : ℕ} {good : Bool} {k : Word} {f : Refusal} (w : Width) (rule : Rule) → m ≡ n → k ≡ wordOf rule → good ≡ allows rule n → f ≡ breach rule 0 m → n < 256 ^ widthOf w
-    → Pushed p (pickStep good (Step.Number k w m) (Step.Fails f) ∷ []) r → Numbered w rule n p r
+    → Pushed p (cond good (Step.Number k w m) (Step.Fails f) ∷ []) r → Numbered w rule n p r
 numbered w rule same word allowed why fits push = record { pushed = rw (why, same, word, allowed) at push; fits = fits }
 
 -- a yes or a no is at most 1

@@ -15,31 +15,27 @@ use Rattle.wire.specs.Answers.{widthOf, startOf, lenOf}
 use Rattle.wire.specs.Bytes.{digits}
 use Rattle.wire.specs.Layout.{lengthTo}
 use Rattle.wire.specs.Reading.{found, next}
-use Rattle.wire.specs.Writing.{cut, spelt, whole, filled, partOf}
+use Rattle.wire.specs.Writing.{cut, spelt, whole}
+use Rattle.wire.specs.Filling.{filled}
+use Rattle.wire.specs.Fields.{partOf}
 use Rattle.wire.proofs.Cuts.{cut-length}
 use Rattle.wire.proofs.Digits.{length-digits}
 use Rattle.wire.proofs.Steps.{found-refused, found-same, next-found, when-found}
 use Rattle.wire.proofs.Then.{whole-same}
 use Rattle.wire.proofs.Written.{spelt-found, moved-found}
-use Rattle.kinds.specs.Kinds.{tpmsPcrSelection}
+use Rattle.format.specs.Kinds.{tpmsPcrSelection}
 use Rattle.plans.specs.Steps.{spell, spellStep, laid}
-use Rattle.plans.specs.Walked.{Inside, Legal, Puts}
-use Rattle.plans.specs.declared.step.Word.{Word}
+use Rattle.text.specs.Puts.{Puts}
+use Rattle.text.proofs.Putting.{filled-puts, puts-length, puts-then, puts-none}
+use Rattle.plans.specs.Walked.{Inside, Legal}
+use Rattle.text.specs.declared.line.Word.{Word}
 use Rattle.plans.specs.declared.step.Step.{Step}
 use Rattle.plans.specs.declared.plan.Cell.{Cell}
 use Rattle.plans.proofs.Loops.{blank, from, from-cons, from-none}
 
 -- ---- bytes in a buffer
 
--- with room, what a writer leaves is the bytes and what was there around them
-pub filled-puts : (at : ℕ) (bs old : List ℕ) {last : List ℕ} {n : ℕ} → n ≡ length bs → at + n ≤ length old → last ≡ filled at (found bs) old → Puts at bs old (at + n) last
-filled-puts at bs old e h p =
-    let t : leb (length bs) (length old - at) ≡ true = le-leb (length bs) (length old - at) (omega arith) in
-    let place : length bs + at ≡ at + length bs = omega arith in
-    let q : _ ≡ take at old ++ (bs ++ drop (length bs + at) old) = rw t at p in
-    record { behind = ap (λ n. at + n) e; holds = q ∙ ap (λ n. take at old ++ (bs ++ drop n old)) place }
-
--- and so of a span that lies in its source
+-- with room, a span that lies in its source is put, and around it all is as it was
 pub part-puts : (t : Span) (src : List ℕ) (at : ℕ) (old : List ℕ) {last : List ℕ} {n : ℕ} → n ≡ lenOf t → startOf t + lenOf t ≤ length src → at + lenOf t ≤ length old
     → last ≡ filled at (cut src (startOf t) (lenOf t) at) old → Puts at (take (lenOf t) (drop (startOf t) src)) old (at + n) last
 unfolding cut
@@ -47,35 +43,6 @@ part-puts t src at old {last} {n} e i h p =
     let xs = take (lenOf t) (drop (startOf t) src) in
     let q : last ≡ filled at (found xs) old = rw (le-leb (startOf t + lenOf t) (length src) i) at p in
     filled-puts at xs old (e ∙ sym (cut-length src (startOf t) (lenOf t) 0 i)) (omega arith) q
-
--- a buffer keeps its length
-pub puts-length : {at : ℕ} {bs old : List ℕ} {r : ℕ} {last : List ℕ} → r ≤ length old → Puts at bs old r last → length last ≡ length old
-puts-length {at} {bs} {old} h p =
-    omega (arith, p .behind, ap length (p .holds), length-append (take at old) (bs ++ drop (at + length bs) old), length-append bs (drop (at + length bs) old), length-drop (at + length bs) old, length-take-le at old (omega (arith, p .behind)))
-
--- bytes behind bytes
-pub puts-then : {at m r : ℕ} {xs ys old mid last : List ℕ} → m ≤ length old → Puts at xs old m mid → Puts m ys mid r last → Puts at (xs ++ ys) old r last
-puts-then {at} {m} {r} {xs} {ys} {old} {mid} {last} h p q =
-    let whole = length-append xs ys in
-    let front : length (take at old ++ xs) ≡ m = omega (arith, p .behind, length-append (take at old) xs, length-take-le at old (omega (arith, p .behind))) in
-    let bracketed : mid ≡ (take at old ++ xs) ++ drop (at + length xs) old = p .holds ∙ sym (append-assoc (take at old) xs (drop (at + length xs) old)) in
-    let begun : take m mid ≡ take at old ++ xs = ap (λ l. take m l) bracketed ∙ take-at (take at old ++ xs) (drop (at + length xs) old) m front in
-    let rest : drop m mid ≡ drop (at + length xs) old = ap (λ l. drop m l) bracketed ∙ drop-at (take at old ++ xs) (drop (at + length xs) old) m front in
-    let place : at + length xs + length ys ≡ at + length (xs ++ ys) = omega arith in
-    let behind : drop (m + length ys) mid ≡ drop (at + length (xs ++ ys)) old =
-    sym (drop-drop (length ys) m mid) ∙ ap (λ l. drop (length ys) l) rest ∙ drop-drop (length ys) (at + length xs) old ∙ ap (λ n. drop n old) place in
-    record {
-      behind = omega (arith, p .behind, q .behind);
-      holds = q .holds
-          ∙ ap (λ l. l ++ (ys ++ drop (m + length ys) mid)) begun
-          ∙ append-assoc (take at old) xs (ys ++ drop (m + length ys) mid)
-          ∙ ap (λ l. take at old ++ (xs ++ (ys ++ l))) behind
-          ∙ ap (λ l. take at old ++ l) (sym (append-assoc xs ys (drop (at + length (xs ++ ys)) old)));
-    }
-
--- nothing
-pub puts-none : (at : ℕ) (old : List ℕ) → Puts at [] old at old
-puts-none at old = let here : at ≡ at + 0 = omega arith in record { behind = here; holds = sym (take-append-drop at old) ∙ ap (λ n. take at old ++ drop n old) here }
 
 -- ---- steps
 

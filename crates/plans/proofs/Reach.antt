@@ -2,7 +2,7 @@
 use Prim.Native.Nat.{ℕ, zero, suc, _+_, _-_, _*_, _≤_}
 use native.Mathlib.Omega.{arith}
 use mathlib.Core.Path.{_≡_, refl, sym}
-use mathlib.Core.Bool.{Bool, true, false}
+use mathlib.Core.Bool.{Bool, true, false, cond}
 use mathlib.Core.List.{List}
 use lib.ListN.{length, take, drop}
 use lib.Dec.{leb}
@@ -11,13 +11,14 @@ use Rattle.wire.specs.declared.fault.Refusal.{Refusal}
 use Rattle.wire.specs.Bytes.{Bytes, be}
 use Rattle.wire.specs.Faults.{short}
 use Rattle.wire.specs.Layout.{Rule, free, listed, fixed, lengthTo, countTo, allows, breach, stop, buffer}
-use Rattle.wire.specs.Reading.{Part, num, Ans, found, refused, next, when, also, left, Parsed, piece, field, walk, list, read}
-use Rattle.wire.specs.Writing.{cut, partOf}
+use Rattle.wire.specs.Reading.{Part, num, Ans, found, refused, next, also, left, Parsed, piece, field, walk, list, read}
+use Rattle.wire.specs.Writing.{cut}
+use Rattle.wire.specs.Fields.{partOf}
 use Rattle.wire.proofs.Sound.{list-sound, read-sound}
 use Rattle.wire.proofs.Stand.{stands-left, stands-bytes}
 use Rattle.wire.proofs.Written.{cut-found}
-use Rattle.kinds.specs.Codes.{alg}
-use Rattle.kinds.specs.Kinds.{tpmsPcrSelection}
+use Rattle.format.specs.Codes.{alg}
+use Rattle.format.specs.Kinds.{tpmsPcrSelection}
 
 -- an answer that ends, or fails, not beyond the place n
 abbrev Within : Ans ℕ → ℕ → Type 0
@@ -53,11 +54,11 @@ module _ (src : List ℕ) (at n : ℕ) (here : at ≤ n) where
   unfolding field piece
   field-within w r k g = by (leb w (left src at)) (take w (drop at src))
     where
-      test : (b : Bool) (m : ℕ) → allows r m ≡ b → Within (next (when b (found m) (refused (breach r at m))) k) n
+      test : (b : Bool) (m : ℕ) → allows r m ≡ b → Within (next (cond b (found m) (refused (breach r at m))) k) n
       test true m e = g m e
       test false m e = rw (breach-place r at m) here
 
-      by : (b : Bool) (xs : List ℕ) → Within (next (next (when b (found xs) (refused (short at w))) (λ xs. when (allows r (be xs)) (found (be xs)) (refused (breach r at (be xs))))) k) n
+      by : (b : Bool) (xs : List ℕ) → Within (next (next (cond b (found xs) (refused (short at w))) (λ xs. cond (allows r (be xs)) (found (be xs)) (refused (breach r at (be xs))))) k) n
       by true xs = test (allows r (be xs)) (be xs) refl
       by false xs = here
 
@@ -65,7 +66,7 @@ module _ (src : List ℕ) (at n : ℕ) (here : at ≤ n) where
   unfolding piece
   piece-within m k g = by (leb m (left src at))
     where
-      by : (b : Bool) → Within (next (when b (found (take m (drop at src))) (refused (short at m))) k) n
+      by : (b : Bool) → Within (next (cond b (found (take m (drop at src))) (refused (short at m))) k) n
       by true = g (take m (drop at src))
       by false = here
 

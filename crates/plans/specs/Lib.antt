@@ -1,3 +1,2 @@
 pub mod Steps
 pub mod Walked
-pub mod Lines

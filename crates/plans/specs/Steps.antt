@@ -1,6 +1,6 @@
 -- What the steps of a plan mean, and which plans are plans of a record. Assumes nothing.
 use Prim.Native.Nat.{ℕ, zero, suc, _+_, _^_, _≤_, _<_}
-use mathlib.Core.Bool.{Bool, true, false}
+use mathlib.Core.Bool.{Bool, true, false, cond}
 use mathlib.Core.Path.{_≡_}
 use mathlib.Core.List.{List, [], _∷_, _++_}
 use lib.ListN.{length, take, drop}
@@ -11,13 +11,15 @@ use Rattle.wire.specs.Answers.{widthOf, startOf, lenOf, spanPart}
 use Rattle.wire.specs.Bytes.{digits}
 use Rattle.wire.specs.Faults.{refusal, noSuchArm, mismatch}
 use Rattle.wire.specs.Layout.{Rule, free, listed, fixed, lengthTo, countTo, allows, breach, Layout}
-use Rattle.wire.specs.Reading.{Part, Ans, found, refused, next, when, read}
-use Rattle.wire.specs.Writing.{cut, spelt, whole, moved, ahead, onto, lay, odd, spans}
+use Rattle.wire.specs.Reading.{Part, Ans, found, refused, next, read}
+use Rattle.wire.specs.Writing.{cut, spelt, whole, moved, ahead, onto, lay, odd}
+use Rattle.wire.specs.Fields.{spans}
 use Rattle.wire.specs.Unwritten.{Shaped}
-use Rattle.kinds.specs.Kinds.{tpmsPcrSelection}
-use Rattle.plans.specs.declared.step.Word.{Word}
+use Rattle.format.specs.Kinds.{tpmsPcrSelection}
+use Rattle.text.specs.declared.line.Word.{Word}
+use Rattle.text.specs.Text.{sayWord}
 use Rattle.plans.specs.declared.step.Step.{Step}
-use Rattle.plans.specs.Lines.{Says, aCode, aNumber, Line, line, spanLine, listLines, lines}
+use Rattle.wire.specs.Lines.{Says, aCode, aNumber, Line, line, spanLine, listLines, lines}
 use Rattle.plans.specs.declared.plan.Cell.{Cell}
 use Rattle.plans.specs.declared.plan.Plan.{Plan}
 
@@ -48,7 +50,7 @@ pub record Pushed (p : Plan) (ss : List Step) (r : Plan) : Type 0 where
 -- the bytes of a step, or what is wrong with it
 unfoldable pub spellStep : Step → (src : List ℕ) (at : ℕ) → Ans (List ℕ)
 spellStep (Step.Number k w n) src at = found (digits (widthOf w) n)
-spellStep (Step.Plain n s) src at = when (eqb (lenOf s) n) (cut src (startOf s) (lenOf s) at) (odd at)
+spellStep (Step.Plain n s) src at = cond (eqb (lenOf s) n) (cut src (startOf s) (lenOf s) at) (odd at)
 spellStep (Step.Buffer m s) src at =
     next (cut src (startOf s) (lenOf s) at)
     (λ xs. ahead (spelt 2 (lengthTo m) (lenOf s) at) (found xs))
@@ -85,11 +87,6 @@ laid (Step.Buffer m s) src = digits 2 (lenOf s) ++ take (lenOf s) (drop (startOf
 laid (Step.Selections s) src = take (lenOf s) (drop (startOf s) src)
 laid (Step.Fails f) src = []
 
--- a number by its word
-abbrev pub sayWord : Word → ℕ → Says
-sayWord Word.Code n = aCode n
-sayWord Word.Number n = aNumber n
-
 -- the lines of a step, and of steps one behind the other
 abbrev pub stepLines : Step → (src : List ℕ) (at : ℕ) → List Line
 stepLines (Step.Number k w n) src at = line at (widthOf w) (sayWord k n) ∷ []
@@ -123,11 +120,6 @@ pub record Adds (l : Layout) (ps ls : List Part) (k : ℕ) (p r : Plan) : Type 0
 
 -- ---- numbers
 
--- the first step where the test holds, and else the second
-abbrev pub pickStep : Bool → Step → Step → Step
-pickStep true s t = s
-pickStep false s t = t
-
 -- what a listing calls a number under that rule: one that UnknownCode can refuse is a code
 abbrev pub wordOf : Rule → Word
 wordOf free = Word.Number
@@ -138,7 +130,7 @@ wordOf (countTo m) = Word.Number
 
 -- the step of a number: its digits, if its rule allows it
 abbrev pub numberStep : Width → Rule → ℕ → Step
-numberStep w r n = pickStep (allows r n) (Step.Number (wordOf r) w n) (Step.Fails (breach r 0 n))
+numberStep w r n = cond (allows r n) (Step.Number (wordOf r) w n) (Step.Fails (breach r 0 n))
 
 -- the plan r is p with a number behind it that its width holds
 pub record Numbered (w : Width) (rule : Rule) (n : ℕ) (p r : Plan) : Type 0 where

@@ -7,7 +7,8 @@ use Rattle.wire.specs.declared.measure.Measure.{Measure}
 use Rattle.wire.specs.Answers.{startOf, lenOf, spanPart}
 use Rattle.wire.specs.Faults.{noField}
 use Rattle.wire.specs.Reading.{Part, Ans, found, refused, next}
-use Rattle.wire.specs.Writing.{cut, partOf}
+use Rattle.wire.specs.Writing.{cut}
+use Rattle.wire.specs.Fields.{partOf}
 use Rattle.plans.specs.declared.step.Step.{Step}
 use Rattle.plans.specs.declared.find.Place.{Place}
 use Rattle.plans.specs.declared.item.Item.{Item}
@@ -30,11 +31,6 @@ Inside (Step.Plain n s) src = startOf s + lenOf s ≤ length src
 Inside (Step.Buffer m s) src = startOf s + lenOf s ≤ length src
 Inside (Step.Selections s) src = startOf s + lenOf s ≤ length src
 Inside (Step.Fails f) src = Unit {0}
-
--- the bytes bs stand at the place `at` of what was `old`, r the place behind them, and around them all is as it was
-pub record Puts (at : ℕ) (bs old : List ℕ) (r : ℕ) (last : List ℕ) : Type 0 where
-  pub behind : r ≡ at + length bs
-  pub holds : last ≡ take at old ++ (bs ++ drop (at + length bs) old)
 
 -- something was found
 abbrev pub Legal : Ans (List ℕ) → Type 0

@@ -8,7 +8,7 @@ ghost use mathlib.Core.Path.{_≡_};
 ghost use mathlib.Core.List.{List, _∷_};
 ghost use Prim.Native.Nat.{ℕ};
 ghost use Rattle.wire.specs.Answers.{measureAnswer};
-ghost use Rattle.wire.specs.Writing.{partOf, sizeOf, fieldOf};
+ghost use Rattle.wire.specs.Fields.{partOf, sizeOf, fieldOf};
 ghost use Rattle.plans.specs.Steps.{steps, Room, spansOf};
 ghost use Rattle.plans.specs.Walked.{placeAnswer, placeAhead};
 

@@ -8,7 +8,7 @@ use wire::span::Span;
 ghost use mathlib.Core.Path.{_≡_};
 ghost use Prim.Native.Nat.{_≤_};
 ghost use Rattle.wire.specs.Answers.{measureAnswer};
-ghost use Rattle.wire.specs.Writing.{sizeOf};
+ghost use Rattle.wire.specs.Fields.{sizeOf};
 ghost use Rattle.plans.specs.Steps.{steps, spell, spellStep, Room};
 ghost use Rattle.plans.specs.Walked.{after, Near};
 

@@ -1,20 +1,21 @@
 // A plan, by value, and what is pushed onto it. It has 24 cells; the longest record, a public area with an ECC key and every arm wrong, takes 20.
 use crate::step::Step;
-use crate::step::Word;
-use kinds::codes::TpmAlgId;
-use kinds::codes::TpmEccCurve;
-use kinds::codes::TpmSt;
+use format::codes::TpmAlgId;
+use format::codes::TpmEccCurve;
+use format::codes::TpmSt;
+use text::line::Word;
 use wire::choice::Choice;
 use wire::fault::Refusal;
 use wire::span::Span;
 use wire::width::Width;
+ghost use mathlib.Core.Bool.{cond};
 ghost use mathlib.Core.Path.{_≡_};
 ghost use mathlib.Core.List.{[], _∷_};
 ghost use Prim.Native.Nat.{_+_, _≤_, _<_};
 ghost use Rattle.wire.specs.Layout.{free};
 ghost use Rattle.wire.specs.declared.width.Width.the-variants.{One, Two, Four, Eight};
-ghost use Rattle.kinds.specs.Codes.{alg, curve, attestation, yesNo, magic};
-ghost use Rattle.plans.specs.Steps.{steps, Room, Pushed, Numbered, pickStep, due, dueSize};
+ghost use Rattle.format.specs.Codes.{alg, curve, attestation, yesNo, magic};
+ghost use Rattle.plans.specs.Steps.{steps, Room, Pushed, Numbered, due, dueSize};
 
 pub struct Cell {
     pub step: Step,
@@ -79,7 +80,7 @@ impl Plan {
     // A number, or the refusal of it.
     fn number(self, good: bool, k: Word, w: Width, n: u64, f: Refusal) -> Plan
         requires { ⌜ Room 1 self ⌝ }
-        ensures { λ r. ⌜ Pushed self (pickStep good (Step.Number k w n) (Step.Fails f) ∷ []) r ⌝ }
+        ensures { λ r. ⌜ Pushed self (cond good (Step.Number k w n) (Step.Fails f) ∷ []) r ⌝ }
     {
         if good {
             self.push(Step::Number(k, w, n))
@@ -180,11 +181,11 @@ impl Plan {
     }
 
     // A length of two bytes and the bytes of a span.
-    pub fn buffer(self, limit: usize, span: Span) -> Plan
+    pub fn buffer(self, limit: u16, span: Span) -> Plan
         requires { ⌜ Room 1 self × (limit < 65536) ⌝ }
         ensures { λ r. ⌜ Pushed self (Step.Buffer limit span ∷ []) r ⌝ }
     {
-        self.push(Step::Buffer(limit as u16, span))
+        self.push(Step::Buffer(limit, span))
     }
 
     // Where the arm of a union is due that the selector chooses.

@@ -11,9 +11,10 @@ ghost use Prim.Native.Nat.{_+_, _≤_};
 ghost use lib.ListN.{length, take, drop};
 ghost use Rattle.wire.specs.Answers.{widthOf, startOf, lenOf};
 ghost use Rattle.wire.specs.Bytes.{digits};
-ghost use Rattle.wire.specs.Writing.{partOf};
+ghost use Rattle.wire.specs.Fields.{partOf};
 ghost use Rattle.plans.specs.Steps.{steps, spell, Room, laid};
-ghost use Rattle.plans.specs.Walked.{Inside, Legal, Puts};
+ghost use Rattle.plans.specs.Walked.{Inside, Legal};
+ghost use Rattle.text.specs.Puts.{Puts};
 
 // A number at the place `at` of out, and the place behind it.
 fn put_digits(n: u64, w: Width, out: &mut [u8], at: usize) -> usize

@@ -4,7 +4,7 @@ use wire::fault::Refusal;
 use wire::measure::Measure;
 ghost use mathlib.Core.Path.{_≡_};
 ghost use Rattle.wire.specs.Answers.{measureAnswer};
-ghost use Rattle.wire.specs.Writing.{written, filled};
+ghost use Rattle.wire.specs.Filling.{written, filled};
 ghost use Rattle.plans.specs.Steps.{steps, spell, Room};
 
 impl Plan {

@@ -1,42 +1,18 @@
 -- Every record of a kind has a byte; so where one is read, there is input. Assumes nothing.
 use Prim.Native.Nat.{ℕ, zero, suc, _<_, _≤_}
 use native.Mathlib.Omega.{arith}
-use mathlib.Core.Path.{_≡_, refl, ap}
+use mathlib.Core.Path.{_≡_, refl}
 use mathlib.Core.Bool.{Bool, true, false, _&&_, false≢true}
 use mathlib.Core.List.{List, [], _∷_}
-use lib.ListN.{length, getD, length-append}
-use Rattle.wire.specs.Bytes.{Bytes, digits}
-use Rattle.wire.specs.Layout.{Layout, stop, noArm, arm, number, plain, buffer, counted}
+use lib.ListN.{length, getD}
+use Rattle.wire.specs.Bytes.{Bytes}
+use Rattle.wire.specs.Layout.{Layout, noArm}
 use Rattle.wire.specs.Reading.{Part, parsed, read}
-use Rattle.wire.specs.Grammar.{Token, Spells, says, counts}
-use Rattle.wire.proofs.Digits.{length-digits}
+use Rattle.wire.specs.Grammar.{Token, Spells}
 use Rattle.wire.proofs.Stand.{stands-left}
 use Rattle.wire.proofs.Sound.{read-sound}
-use Rattle.wire.proofs.Split.{no-arm-no-record}
-use Rattle.kinds.specs.Kinds.{tpmtHa, tpmtSymDef, tpmtKdfScheme, tpmtKeyedhashScheme, tpmtSigScheme, tpmtAsymScheme, tpmtPublicParms, tpmtSignature, tpmtPublic, tpmtSensitive, tpmsAttest, tpmlPcrSelection, kinds, layoutOf}
-
--- the layout begins with a number or with a count, or no bytes spell it
-abbrev begins : Layout → Bool
-begins stop = false
-begins (noArm v) = true
-begins (arm v t l) = false
-begins (number zero r k) = false
-begins (number (suc w) r k) = true
-begins (plain n l) = false
-begins (buffer w m l) = false
-begins (counted m i l) = true
-
--- then every record of it has a byte
-begins-some : (l : Layout) {ts : List Token} {bs : List ℕ} → begins l ≡ true → Spells l ts bs → 0 < length bs
-begins-some stop b d = absurd (false≢true b)
-begins-some (noArm v) b d = absurd (no-arm-no-record d)
-begins-some (arm v t l) b d = absurd (false≢true b)
-begins-some (number zero r k) b d = absurd (false≢true b)
-begins-some (number (suc w) r k) b (says {cs = cs} n h a e d) = omega (arith, ap length e, length-append (digits (suc w) n) cs, length-digits (suc w) n)
-begins-some (plain n l) b d = absurd (false≢true b)
-begins-some (buffer w m l) b d = absurd (false≢true b)
-begins-some (counted m i l) b (counts {xs = xs} {ys} {cs} n h le c is e d) =
-    omega (arith, ap length e, length-append xs cs, ap length c, length-append (digits 4 n) ys, length-digits 4 n)
+use Rattle.wire.proofs.Begun.{begins, begins-some}
+use Rattle.format.specs.Kinds.{tpmtHa, tpmtSymDef, tpmtKdfScheme, tpmtKeyedhashScheme, tpmtSigScheme, tpmtAsymScheme, tpmtPublicParms, tpmtSignature, tpmtPublic, tpmtSensitive, tpmsAttest, tpmlPcrSelection, kinds, layoutOf}
 
 both-true : (s t : Bool) → (s && t) ≡ true → (s ≡ true) × (t ≡ true)
 both-true true t e = (refl, e)

@@ -13,7 +13,7 @@ use borrow.Author.Tests.{leb-true, leb-false}
 use Rattle.wire.specs.declared.fault.Refusal.{Refusal}
 use Rattle.wire.specs.Faults.{noRoom}
 use Rattle.wire.specs.Reading.{Ans, found, refused}
-use Rattle.wire.specs.Writing.{written, filled}
+use Rattle.wire.specs.Filling.{written, filled}
 use Rattle.wire.proofs.Steps.{found-refused, found-same, refused-same}
 use Rattle.wire.proofs.Filling.{fits-put, fits-not}
 

@@ -21,7 +21,7 @@ use Rattle.wire.proofs.Prefix.{starts-read, refused-none, none-refused, prefix-
 use Rattle.wire.proofs.Refused.{refuses-read, read-refuses}
 use Rattle.wire.proofs.Stable.{IsShort, cut-short}
 use Rattle.wire.proofs.Later.{later-read, later-cut}
-use Rattle.kinds.specs.Kinds.{isKind, layoutOf, readKind}
+use Rattle.format.specs.Kinds.{isKind, layoutOf, readKind}
 use Rattle.records.specs.Ends.{endOf}
 use Rattle.records.proofs.ByKind.{of-kind}
 

@@ -30,7 +30,7 @@ use Rattle.wire.proofs.Later.{Verdict, later}
 use Rattle.wire.proofs.Refused.{refuses-read}
 use Rattle.wire.proofs.Answers.{measure-answer-once}
 use Rattle.wire.proofs.Whole.{whole-is-read, read-is-whole, read-is-trailing}
-use Rattle.kinds.specs.Kinds.{tpmtHa, tpmtSymDef, tpmtKdfScheme, tpmtKeyedhashScheme, tpmtSigScheme, tpmtAsymScheme, tpmtPublicParms, tpmtSignature, tpmtPublic, tpmtSensitive, tpmsAttest, tpmlPcrSelection, kinds, isKind, layoutOf, readKind}
+use Rattle.format.specs.Kinds.{tpmtHa, tpmtSymDef, tpmtKdfScheme, tpmtKeyedhashScheme, tpmtSigScheme, tpmtAsymScheme, tpmtPublicParms, tpmtSignature, tpmtPublic, tpmtSensitive, tpmsAttest, tpmlPcrSelection, kinds, isKind, layoutOf, readKind}
 use Rattle.records.specs.Ends.{endOf}
 use Rattle.records.proofs.ByKind.{no-kind}
 use Rattle.records.proofs.Wholes.{whole-refused}

@@ -14,12 +14,13 @@ use Rattle.wire.specs.Bytes.{Bytes}
 use Rattle.wire.specs.Faults.{noRoom}
 use Rattle.wire.specs.Reading.{Part, found, refused, parsed, read}
 use Rattle.wire.specs.Grammar.{Spells, shown}
-use Rattle.wire.specs.Writing.{lay, written, filled}
+use Rattle.wire.specs.Writing.{lay}
+use Rattle.wire.specs.Filling.{written, filled}
 use Rattle.wire.specs.Unwritten.{Shaped, Unwritten}
 use Rattle.wire.proofs.Stand.{stands-start}
 use Rattle.wire.proofs.Written.{read-then-lay, lay-sound, lay-then-read}
 use Rattle.wire.proofs.Unwritten.{unwritten-lay, lay-unwritten, shaped-of-read}
-use Rattle.kinds.specs.Kinds.{layoutOf}
+use Rattle.format.specs.Kinds.{layoutOf}
 use Rattle.records.specs.Sizes.{sizesOf}
 use Rattle.records.specs.Within.{Within}
 use Rattle.records.proofs.Begun.{kind-has-bytes, read-lies-in}

@@ -30,7 +30,7 @@ use schemes::tpmt::TpmtSymDefRead;
 use wire::fault::Refusal;
 ghost use mathlib.Core.Path.{_≡_};
 ghost use Rattle.wire.specs.Reading.{readWhole};
-ghost use Rattle.kinds.specs.Kinds.{tpmtHa, tpmtSymDef, tpmtKdfScheme, tpmtKeyedhashScheme, tpmtSigScheme, tpmtAsymScheme, tpmtPublicParms, tpmtSignature, tpmtPublic, tpmtSensitive, tpmsAttest, tpmlPcrSelection};
+ghost use Rattle.format.specs.Kinds.{tpmtHa, tpmtSymDef, tpmtKdfScheme, tpmtKeyedhashScheme, tpmtSigScheme, tpmtAsymScheme, tpmtPublicParms, tpmtSignature, tpmtPublic, tpmtSensitive, tpmsAttest, tpmlPcrSelection};
 ghost use Rattle.schemes.specs.Answers.{tpmtHaAnswer, tpmtSymDefAnswer, tpmtKdfSchemeAnswer, tpmtKeyedhashSchemeAnswer, tpmtSigSchemeAnswer, tpmtRsaSchemeAnswer, tpmtEccSchemeAnswer, tpmtRsaDecryptAnswer, tpmlPcrSelectionAnswer};
 ghost use Rattle.keys.specs.Answers.{tpmtPublicParmsAnswer, tpmtSignatureAnswer, tpmtPublicAnswer, tpmtSensitiveAnswer};
 ghost use Rattle.attest.specs.Answers.{tpmsAttestAnswer};

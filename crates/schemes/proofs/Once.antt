@@ -3,9 +3,9 @@ use Prim.Native.Nat.{zero, suc}
 use mathlib.Core.Path.{refl}
 use mathlib.Core.List.{List, [], _∷_}
 use Rattle.wire.proofs.Once.{Injective, Once, number-once, span-once, both, fields, holds, bare, tagged, union, answers}
-use Rattle.kinds.specs.Codes.{hmac, aes, mgf1, xor, null, sm4, kdf1-sp800-56a, kdf2, kdf1-sp800-108, camellia}
-use Rattle.kinds.specs.Tables.{empty, hash, hmacHash}
-use Rattle.kinds.proofs.Once.{alg-once}
+use Rattle.format.specs.Codes.{hmac, aes, mgf1, xor, null, sm4, kdf1-sp800-56a, kdf2, kdf1-sp800-108, camellia}
+use Rattle.format.specs.Kinds.{empty, hash, hmacHash}
+use Rattle.format.proofs.Once.{alg-once}
 use Rattle.schemes.specs.declared.tpms.TpmsSchemeHash.{TpmsSchemeHash}
 use Rattle.schemes.specs.declared.tpms.TpmsSchemeXor.{TpmsSchemeXor}
 use Rattle.schemes.specs.declared.tpms.TpmsPcrSelection.{TpmsPcrSelection}

@@ -1,10 +1,9 @@
 -- The parts of a record, in wire order; of a union the arm that it holds comes first. Assumes nothing.
-use Prim.Native.Nat.{ℕ}
 use mathlib.Core.List.{List, [], _∷_, _++_}
 use Rattle.wire.specs.Answers.{lenOf, spanPart}
 use Rattle.wire.specs.Reading.{Part, num, tag, span}
-use Rattle.kinds.specs.Codes.{hmac, aes, mgf1, xor, null, sm4, kdf1-sp800-56a, kdf2, kdf1-sp800-108, camellia}
-use Rattle.kinds.specs.Tables.{empty, digestOf, hash, hmacHash}
+use Rattle.format.specs.Codes.{hmac, aes, mgf1, xor, null, sm4, kdf1-sp800-56a, kdf2, kdf1-sp800-108, camellia}
+use Rattle.format.specs.Kinds.{empty, digestOf, hash, hmacHash}
 use Rattle.schemes.specs.declared.tpms.TpmsSchemeHash.{TpmsSchemeHash}
 use Rattle.schemes.specs.declared.tpms.TpmsSchemeXor.{TpmsSchemeXor}
 use Rattle.schemes.specs.declared.tpms.TpmsPcrSelection.{TpmsPcrSelection}
@@ -24,13 +23,6 @@ use Rattle.schemes.specs.declared.tpmt.TpmtSigScheme.{TpmtSigScheme}
 use Rattle.schemes.specs.declared.tpmt.TpmtRsaScheme.{TpmtRsaScheme}
 use Rattle.schemes.specs.declared.tpmt.TpmtEccScheme.{TpmtEccScheme}
 use Rattle.schemes.specs.declared.tpmt.TpmtRsaDecrypt.{TpmtRsaDecrypt}
-
--- the arm that the parts of a union hold
-abbrev pub held : List Part → ℕ
-held [] = 0
-held (num n ∷ ps) = 0
-held (tag t ∷ ps) = t
-held (span start len ∷ ps) = 0
 
 -- ---- structures that schemes hold
 

@@ -1,8 +1,8 @@
 // Kind 14, the PCR selection list: a count, and so many items. A record keeps the whole list as one span.
 use crate::tpms::TpmsPcrSelection;
 use crate::tpms::TpmsPcrSelectionRead;
-use kinds::uint::Uint32Read;
-use kinds::uint::uint32;
+use format::uint::Uint32Read;
+use format::uint::uint32;
 use wire::fault::Refusal;
 use wire::measure::Measure;
 use wire::span::Span;
@@ -10,7 +10,7 @@ use wire::widen::wider;
 ghost use mathlib.Core.Path.{_≡_};
 ghost use Rattle.wire.specs.Answers.{measureAnswer};
 ghost use Rattle.wire.specs.Reading.{read, walk, list};
-ghost use Rattle.kinds.specs.Kinds.{tpmsPcrSelection, tpmlPcrSelection};
+ghost use Rattle.format.specs.Kinds.{tpmsPcrSelection, tpmlPcrSelection};
 ghost use Rattle.schemes.specs.Answers.{tpmlPcrSelectionAnswer};
 
 // The most items that a list may have.

@@ -1,6 +1,6 @@
 // The structures that schemes hold.
-use kinds::codes::TpmAlgId;
-use kinds::codes::TpmAlgIdRead;
+use format::codes::TpmAlgId;
+use format::codes::TpmAlgIdRead;
 use wire::fault::Refusal;
 use wire::read::SpanRead;
 use wire::read::buffer;
@@ -8,7 +8,7 @@ use wire::span::Span;
 use wire::width::Width;
 ghost use mathlib.Core.Path.{_≡_};
 ghost use Rattle.wire.specs.Reading.{read};
-ghost use Rattle.kinds.specs.Kinds.{tpmsSchemeHash, tpmsSchemeXor, tpmsPcrSelection};
+ghost use Rattle.format.specs.Kinds.{tpmsSchemeHash, tpmsSchemeXor, tpmsPcrSelection};
 ghost use Rattle.schemes.specs.Answers.{tpmsSchemeHashAnswer, tpmsSchemeXorAnswer, tpmsPcrSelectionAnswer};
 
 pub struct TpmsSchemeHash {

@@ -13,12 +13,12 @@ use crate::tpmu::TpmuSymKeyBits;
 use crate::tpmu::TpmuSymKeyBitsRead;
 use crate::tpmu::TpmuSymMode;
 use crate::tpmu::TpmuSymModeRead;
-use kinds::codes::TpmAlgId;
-use kinds::codes::TpmAlgIdRead;
+use format::codes::TpmAlgId;
+use format::codes::TpmAlgIdRead;
 use wire::fault::Refusal;
 ghost use mathlib.Core.Path.{_≡_};
 ghost use Rattle.wire.specs.Reading.{read};
-ghost use Rattle.kinds.specs.Kinds.{tpmtHa, tpmtSymDef, tpmtKdfScheme, tpmtKeyedhashScheme, tpmtSigScheme, tpmtAsymScheme};
+ghost use Rattle.format.specs.Kinds.{tpmtHa, tpmtSymDef, tpmtKdfScheme, tpmtKeyedhashScheme, tpmtSigScheme, tpmtAsymScheme};
 ghost use Rattle.schemes.specs.Answers.{tpmtHaAnswer, tpmtSymDefAnswer, tpmtKdfSchemeAnswer, tpmtKeyedhashSchemeAnswer, tpmtSigSchemeAnswer, tpmtRsaSchemeAnswer, tpmtEccSchemeAnswer, tpmtRsaDecryptAnswer};
 
 pub struct TpmtHa {

@@ -5,12 +5,12 @@ use crate::tpms::TpmsSchemeHashRead;
 use crate::tpms::TpmsSchemeHmac;
 use crate::tpms::TpmsSchemeXor;
 use crate::tpms::TpmsSchemeXorRead;
-use kinds::codes::DigestLen;
-use kinds::codes::TpmAlgId;
-use kinds::codes::TpmAlgIdRead;
-use kinds::registry;
-use kinds::uint::Uint16Read;
-use kinds::uint::uint16;
+use format::codes::DigestLen;
+use format::codes::TpmAlgId;
+use format::codes::TpmAlgIdRead;
+use format::registry;
+use format::uint::Uint16Read;
+use format::uint::uint16;
 use wire::choice::Choice;
 use wire::fault::Refusal;
 use wire::read::SpanRead;
@@ -19,10 +19,9 @@ use wire::span::Span;
 use wire::widen::wide;
 ghost use mathlib.Core.Path.{_≡_};
 ghost use Rattle.wire.specs.Reading.{read};
-ghost use Rattle.wire.specs.Unions.{isArm};
-ghost use Rattle.kinds.specs.Tables.{tpmuHaArm, tpmuAsymSchemeArm, tpmuSigSchemeArm, tpmuKeyedhashSchemeArm, tpmuKdfSchemeArm, cipherArm};
-ghost use Rattle.kinds.specs.Kinds.{tpmuHa, tpmuAsymScheme, tpmuSigScheme, tpmuKeyedhashScheme, tpmuKdfScheme, tpmuSymKeyBits, tpmuSymMode};
-ghost use Rattle.schemes.specs.Parts.{held, tpmuHaParts, tpmuAsymSchemeParts, tpmuSigSchemeParts, tpmuKeyedhashSchemeParts, tpmuKdfSchemeParts, tpmuSymKeyBitsParts, tpmuSymModeParts};
+ghost use Rattle.wire.specs.Unions.{isArm, held};
+ghost use Rattle.format.specs.Kinds.{tpmuHaArm, tpmuAsymSchemeArm, tpmuSigSchemeArm, tpmuKeyedhashSchemeArm, tpmuKdfSchemeArm, tpmuSymKeyBitsArm, tpmuSymModeArm, tpmuHa, tpmuAsymScheme, tpmuSigScheme, tpmuKeyedhashScheme, tpmuKdfScheme, tpmuSymKeyBits, tpmuSymMode};
+ghost use Rattle.schemes.specs.Parts.{tpmuHaParts, tpmuAsymSchemeParts, tpmuSigSchemeParts, tpmuKeyedhashSchemeParts, tpmuKdfSchemeParts, tpmuSymKeyBitsParts, tpmuSymModeParts};
 ghost use Rattle.schemes.specs.Answers.{tpmuHaAnswer, tpmuAsymSchemeAnswer, tpmuSigSchemeAnswer, tpmuKeyedhashSchemeAnswer, tpmuKdfSchemeAnswer, tpmuSymKeyBitsAnswer, tpmuSymModeAnswer};
 
 pub enum TpmuAsymScheme {
@@ -110,7 +109,7 @@ impl TpmuAsymScheme {
     pub fn unmarshal_tagged(tag: TpmAlgId, s: &[u8], at: usize) -> TpmuAsymSchemeRead
         ensures { λ r. ⌜ tpmuAsymSchemeAnswer r ≡ read (tpmuAsymScheme (tag .0)) (now (s .entry)) at ⌝ }
     {
-        match tag.asym_arm() {
+        match tag.asym_scheme_arm() {
             Choice::The(t) => {
                 if t == 0 {
                     return TpmuAsymSchemeRead::Found(TpmuAsymScheme::Null, at);
@@ -131,7 +130,7 @@ impl TpmuAsymScheme {
     pub fn matches_tag(self, tag: TpmAlgId) -> bool
         ensures { λ r. ⌜ r ≡ isArm (tpmuAsymSchemeArm (tag .0)) (held (tpmuAsymSchemeParts self)) ⌝ }
     {
-        let chosen = tag.asym_arm();
+        let chosen = tag.asym_scheme_arm();
         match self {
             TpmuAsymScheme::Hash(_) => chosen.is(1),
             TpmuAsymScheme::Null => chosen.is(0),
@@ -203,9 +202,9 @@ impl TpmuSymKeyBits {
 
     // Whether the payload is the arm that the selector chooses.
     pub fn matches_tag(self, tag: TpmAlgId) -> bool
-        ensures { λ r. ⌜ r ≡ isArm (cipherArm (tag .0)) (held (tpmuSymKeyBitsParts self)) ⌝ }
+        ensures { λ r. ⌜ r ≡ isArm (tpmuSymKeyBitsArm (tag .0)) (held (tpmuSymKeyBitsParts self)) ⌝ }
     {
-        let chosen = tag.cipher_arm();
+        let chosen = tag.sym_key_bits_arm();
         match self {
             TpmuSymKeyBits::Aes(_) => chosen.is(registry::AES),
             TpmuSymKeyBits::Sm4(_) => chosen.is(registry::SM4),
@@ -245,9 +244,9 @@ impl TpmuSymMode {
 
     // Whether the payload is the arm that the selector chooses.
     pub fn matches_tag(self, tag: TpmAlgId) -> bool
-        ensures { λ r. ⌜ r ≡ isArm (cipherArm (tag .0)) (held (tpmuSymModeParts self)) ⌝ }
+        ensures { λ r. ⌜ r ≡ isArm (tpmuSymModeArm (tag .0)) (held (tpmuSymModeParts self)) ⌝ }
     {
-        let chosen = tag.cipher_arm();
+        let chosen = tag.sym_mode_arm();
         match self {
             TpmuSymMode::Aes(_) => chosen.is(registry::AES),
             TpmuSymMode::Sm4(_) => chosen.is(registry::SM4),
@@ -287,7 +286,7 @@ impl TpmuKeyedhashScheme {
     pub fn matches_tag(self, tag: TpmAlgId) -> bool
         ensures { λ r. ⌜ r ≡ isArm (tpmuKeyedhashSchemeArm (tag .0)) (held (tpmuKeyedhashSchemeParts self)) ⌝ }
     {
-        let chosen = tag.keyedhash_arm();
+        let chosen = tag.keyedhash_scheme_arm();
         match self {
             TpmuKeyedhashScheme::Hmac(_) => chosen.is(registry::HMAC),
             TpmuKeyedhashScheme::Xor(_) => chosen.is(registry::XOR),
@@ -300,7 +299,7 @@ impl TpmuSigScheme {
     pub fn unmarshal_tagged(tag: TpmAlgId, s: &[u8], at: usize) -> TpmuSigSchemeRead
         ensures { λ r. ⌜ tpmuSigSchemeAnswer r ≡ read (tpmuSigScheme (tag .0)) (now (s .entry)) at ⌝ }
     {
-        match tag.sig_arm() {
+        match tag.sig_scheme_arm() {
             Choice::The(t) => {
                 if t == 0 {
                     return TpmuSigSchemeRead::Found(TpmuSigScheme::Null, at);
@@ -323,7 +322,7 @@ impl TpmuSigScheme {
     pub fn matches_tag(self, tag: TpmAlgId) -> bool
         ensures { λ r. ⌜ r ≡ isArm (tpmuSigSchemeArm (tag .0)) (held (tpmuSigSchemeParts self)) ⌝ }
     {
-        let chosen = tag.sig_arm();
+        let chosen = tag.sig_scheme_arm();
         match self {
             TpmuSigScheme::Hash(_) => chosen.is(1),
             TpmuSigScheme::Hmac(_) => chosen.is(2),
@@ -375,7 +374,7 @@ impl TpmuKdfScheme {
     pub fn matches_tag(self, tag: TpmAlgId) -> bool
         ensures { λ r. ⌜ r ≡ isArm (tpmuKdfSchemeArm (tag .0)) (held (tpmuKdfSchemeParts self)) ⌝ }
     {
-        let chosen = tag.kdf_arm();
+        let chosen = tag.kdf_scheme_arm();
         match self {
             TpmuKdfScheme::Mgf1(_) => chosen.is(registry::MGF1),
             TpmuKdfScheme::Kdf1Sp800_56a(_) => chosen.is(registry::KDF1_SP800_56A),

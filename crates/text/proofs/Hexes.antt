@@ -7,8 +7,8 @@ use mathlib.Core.List.{List, [], _∷_, _++_}
 use lib.ListN.{length, take, getD}
 use lib.Seq.{take-suc, take-all}
 use Rattle.io.specs.Digits.{glyph}
-use Rattle.plans.specs.Walked.{Puts}
-use Rattle.plans.proofs.Putting.{puts-then, puts-none}
+use Rattle.text.specs.Puts.{Puts}
+use Rattle.text.proofs.Putting.{puts-then, puts-none}
 use Rattle.text.specs.Ascii.{ascii}
 use Rattle.text.specs.Text.{pairs, hex}
 

@@ -1,3 +1,4 @@
+pub mod Putting
 pub mod Decimals
 pub mod Hexes
 pub mod Rows

@@ -4,13 +4,12 @@ use native.Mathlib.Omega.{arith}
 use mathlib.Core.Path.{_≡_, sym, ap, _∙_, subst}
 use mathlib.Core.List.{List, _++_, append-assoc}
 use lib.ListN.{length, length-append}
-use Rattle.plans.specs.declared.step.Word.{Word}
-use Rattle.plans.specs.Lines.{theBytes, line}
-use Rattle.plans.specs.Steps.{sayWord}
-use Rattle.plans.specs.Walked.{Puts}
-use Rattle.plans.proofs.Putting.{puts-then, puts-length}
+use Rattle.text.specs.declared.line.Word.{Word}
+use Rattle.wire.specs.Lines.{theBytes, line}
+use Rattle.text.specs.Puts.{Puts}
+use Rattle.text.proofs.Putting.{puts-then, puts-length}
 use Rattle.text.specs.Ascii.{ascii}
-use Rattle.text.specs.Text.{decimal, hex, wordText, sayText, lineText, readText, refusedText}
+use Rattle.text.specs.Text.{decimal, hex, sayWord, wordText, sayText, lineText, readText, refusedText}
 use Rattle.text.proofs.Decimals.{decimal-length}
 use Rattle.text.proofs.Hexes.{hex-length}
 

@@ -1,2 +1,3 @@
 pub mod Ascii
+pub mod Puts
 pub mod Text

@@ -4,8 +4,8 @@ use mathlib.Core.Bool.{cond}
 use mathlib.Core.List.{List, [], _∷_, _++_}
 use lib.Dec.{ltb}
 use Rattle.io.specs.Digits.{glyph}
-use Rattle.plans.specs.Lines.{Says, aCode, aNumber, theBytes, Line}
-use Rattle.plans.specs.declared.step.Word.{Word}
+use Rattle.wire.specs.Lines.{Says, aCode, aNumber, theBytes, Line}
+use Rattle.text.specs.declared.line.Word.{Word}
 use Rattle.text.specs.Ascii.{ascii}
 
 -- a number in decimal: the digits in front, if there are any, and the last one. A number of 64 bits has at most 20
@@ -25,6 +25,11 @@ pairs (b ∷ bs) = glyph (b / 16) ∷ glyph (b % 16) ∷ pairs bs
 abbrev pub hex : List ℕ → List ℕ
 hex [] = ascii "-"
 hex (b ∷ bs) = pairs (b ∷ bs)
+
+-- a number by its word
+abbrev pub sayWord : Word → ℕ → Says
+sayWord Word.Code n = aCode n
+sayWord Word.Number n = aNumber n
 
 -- the word for a number
 abbrev pub wordText : Word → List ℕ

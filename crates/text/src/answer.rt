@@ -7,7 +7,7 @@ ghost use mathlib.Core.List.{_++_};
 ghost use Prim.Native.Nat.{_+_, _≤_};
 ghost use lib.ListN.{length};
 ghost use Rattle.wire.specs.Faults.{paper};
-ghost use Rattle.plans.specs.Walked.{Puts};
+ghost use Rattle.text.specs.Puts.{Puts};
 ghost use Rattle.text.specs.Text.{decimal, readText, refusedText};
 
 // A word, and a number behind it.

@@ -2,15 +2,19 @@
 use crate::put::put_decimal;
 use crate::put::put_hex;
 use crate::put::put_text;
-use plans::step::Word;
 ghost use mathlib.Core.List.{_++_};
 ghost use Prim.Native.Nat.{_+_, _*_, _≤_};
 ghost use lib.ListN.{length};
-ghost use Rattle.plans.specs.Lines.{line, theBytes};
-ghost use Rattle.plans.specs.Steps.{sayWord};
-ghost use Rattle.plans.specs.Walked.{Puts};
+ghost use Rattle.wire.specs.Lines.{line, theBytes};
 ghost use Rattle.text.specs.Ascii.{ascii};
-ghost use Rattle.text.specs.Text.{decimal, lineText, wordText};
+ghost use Rattle.text.specs.Puts.{Puts};
+ghost use Rattle.text.specs.Text.{decimal, sayWord, lineText, wordText};
+
+// What a listing calls a number.
+pub enum Word {
+    Code,
+    Number,
+}
 
 // Where a field stands and how many bytes it has.
 fn put_head(place: usize, size: usize, out: &mut [u8], at: usize) -> usize

@@ -11,7 +11,8 @@ use borrow.Author.Tests.{leb-true}
 use Rattle.wire.specs.declared.fault.Refusal.{Refusal}
 use Rattle.wire.specs.Faults.{badSpan}
 use Rattle.wire.specs.Reading.{Ans, found, refused}
-use Rattle.wire.specs.Writing.{cut, partOf, sizeOf}
+use Rattle.wire.specs.Writing.{cut}
+use Rattle.wire.specs.Fields.{partOf, sizeOf}
 use Rattle.wire.proofs.Steps.{found-refused}
 
 module _ (src : List ℕ) (start len at : ℕ) where

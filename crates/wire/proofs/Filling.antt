@@ -1,5 +1,5 @@
 -- What is put into a slice: the digits of a number, the last one first; bytes, the first one first; and the answer to it. Assumes nothing.
-use Prim.Native.Nat.{ℕ, zero, suc, _+_, _-_, _/_, _%_, _≤_, _<_}
+use Prim.Native.Nat.{ℕ, zero, suc, _+_, _-_, _≤_, _<_}
 use native.Mathlib.Nat.{add-zero, add-suc}
 use native.Mathlib.Numerals.{add-one}
 use native.Mathlib.Omega.{arith}
@@ -10,53 +10,53 @@ use lib.ListN.{length, take, drop, getD, set, length-set, take-append-drop}
 use lib.Seq.{take-suc, take-length, set-at, length-take-le, paste, paste-zero, paste-suc}
 use lib.Dec.{leb}
 use borrow.Author.Tests.{le-leb, lt-leb}
-use Rattle.wire.specs.Bytes.{digits}
 use Rattle.wire.specs.Faults.{noRoom}
 use Rattle.wire.specs.Reading.{found, refused}
-use Rattle.wire.specs.Writing.{written, filled}
+use Rattle.wire.specs.Filling.{written, filled}
 
--- ---- a number
+-- ---- a number, by any way to spell numbers in digits
 
 -- of the w digits of n those from the j-th on are put; the j digits of m are left
-pub record Filling (old : List ℕ) (at w n : ℕ) (out : List ℕ) (m j : ℕ) : Type 0 where
+pub record Filling (spell : ℕ → ℕ → List ℕ) (old : List ℕ) (at w n : ℕ) (out : List ℕ) (m j : ℕ) : Type 0 where
   pub most : j ≤ w
   pub same : length out ≡ length old
   pub tail : List ℕ
-  pub whole : digits w n ≡ digits j m ++ tail
+  pub whole : spell w n ≡ spell j m ++ tail
   pub held : out ≡ take (at + j) old ++ (tail ++ drop (at + w) old)
 
-pub filling-none : (old : List ℕ) (at w n : ℕ) → Filling old at w n old n w
-filling-none old at w n = record { most = omega arith; same = refl; tail = []; whole = sym (append-nil (digits w n)); held = sym (take-append-drop (at + w) old) }
+module _ {spell : ℕ → ℕ → List ℕ} where
+  pub filling-none : (old : List ℕ) (at w n : ℕ) → Filling spell old at w n old n w
+  filling-none old at w n =
+      record { most = omega arith; same = refl; tail = []; whole = sym (append-nil (spell w n)); held = sym (take-append-drop (at + w) old) }
 
-more : (old : List ℕ) (at w n : ℕ) (out : List ℕ) (m k : ℕ) → at + w ≤ length old → Filling old at w n out m (suc k)
-    → Filling old at w n (set out (at + k) (m % 256)) (m / 256) k
-unfolding digits
-more old at w n out m k h f =
-    let x = m % 256 in
-    let rest = f .tail ++ drop (at + w) old in
-    let fits : at + k < length old = omega (arith, f .most) in
-    let front : take (at + suc k) old ++ rest ≡ take (at + k) old ++ (getD old (at + k) 0 ∷ rest) =
-    rw (add-suc at k, take-suc old (at + k) 0 fits) (append-assoc (take (at + k) old) (getD old (at + k) 0 ∷ []) rest) in
-    record {
-      most = omega (arith, f .most);
-      same = length-set out (at + k) x ∙ f .same;
-      tail = x ∷ f .tail;
-      whole = f .whole ∙ append-assoc (digits k (m / 256)) (x ∷ []) (f .tail);
-      held = ap (λ l. set l (at + k) x) (f .held ∙ front) ∙ set-at (take (at + k) old) (getD old (at + k) 0) rest x (at + k) (length-take-le (at + k) old (omega arith));
-    }
+  module _ {m rest : ℕ} (x : ℕ) (last : (k : ℕ) → spell (suc k) m ≡ spell k rest ++ (x ∷ [])) where
+    more : (old : List ℕ) (at w n : ℕ) (out : List ℕ) (k : ℕ) → at + w ≤ length old → Filling spell old at w n out m (suc k)
+        → Filling spell old at w n (set out (at + k) x) rest k
+    more old at w n out k h f =
+        let behind = f .tail ++ drop (at + w) old in
+        let fits : at + k < length old = omega (arith, f .most) in
+        let front : take (at + suc k) old ++ behind ≡ take (at + k) old ++ (getD old (at + k) 0 ∷ behind) =
+        rw (add-suc at k, take-suc old (at + k) 0 fits) (append-assoc (take (at + k) old) (getD old (at + k) 0 ∷ []) behind) in
+        record {
+          most = omega (arith, f .most);
+          same = length-set out (at + k) x ∙ f .same;
+          tail = x ∷ f .tail;
+          whole = f .whole ∙ ap (λ l. l ++ f .tail) (last k) ∙ append-assoc (spell k rest) (x ∷ []) (f .tail);
+          held = ap (λ l. set l (at + k) x) (f .held ∙ front) ∙ set-at (take (at + k) old) (getD old (at + k) 0) behind x (at + k) (length-take-le (at + k) old (omega arith));
+        }
 
-pub filling-more : (old : List ℕ) (at w n : ℕ) (out : List ℕ) (m j : ℕ) → at + w ≤ length old → 0 < j → Filling old at w n out m j
-    → Filling old at w n (set out (at + (j - 1)) (m % 256)) (m / 256) (j - 1)
-filling-more old at w n out m zero h p f = absurd (omega arith)
-filling-more old at w n out m (suc k) h p f =
-    let e : suc k - 1 ≡ k = omega arith in
-    rw e (more old at w n out m k h f)
+    -- x is the last digit of m, and rest is m without it
+    pub filling-more : {old : List ℕ} {at w n : ℕ} {out : List ℕ} (j : ℕ) → at + w ≤ length old → 0 < j → Filling spell old at w n out m j
+        → Filling spell old at w n (set out (at + (j - 1)) x) rest (j - 1)
+    filling-more zero h p f = absurd (omega arith)
+    filling-more {old} {at} {w} {n} {out} (suc k) h p f =
+        let e : suc k - 1 ≡ k = omega arith in
+        rw e (more old at w n out k h f)
 
-pub filling-all : {old : List ℕ} {at w n : ℕ} {out : List ℕ} {m : ℕ} (j : ℕ) → j ≤ 0 → Filling old at w n out m j
-    → out ≡ take at old ++ (digits w n ++ drop (at + w) old)
-unfolding digits
-filling-all {old} {at} {w} zero h f = rw (f .whole) (rw add-zero at (f .held))
-filling-all (suc j) h f = absurd (omega arith)
+  pub filling-all : {old : List ℕ} {at w n : ℕ} {out : List ℕ} {m : ℕ} (j : ℕ) → spell 0 m ≡ [] → j ≤ 0 → Filling spell old at w n out m j
+      → out ≡ take at old ++ (spell w n ++ drop (at + w) old)
+  filling-all {old} {at} {w} zero none h f = rw (f .whole, none) (rw add-zero at (f .held))
+  filling-all (suc j) none h f = absurd (omega arith)
 
 -- ---- bytes
 

@@ -4,33 +4,23 @@
 use Prim.Native.Nat.{ℕ, _+_, _-_, _≤_, _<_}
 use native.Mathlib.Omega.{arith}
 use mathlib.Core.Path.{_≡_, refl, sym}
-use mathlib.Core.Bool.{true, false}
+use mathlib.Core.Bool.{true, false, cond}
 use mathlib.Core.List.{List, [], _∷_}
 use lib.ListN.{take, drop}
 use lib.Dec.{leb}
 use borrow.Author.Tests.{le-leb, lt-leb, leb-true}
 use Rattle.wire.specs.declared.fault.Refusal.{Refusal}
 use Rattle.wire.specs.Bytes.{be}
-use Rattle.wire.specs.Faults.{short, noSuchArm, tooLong, tooManyItems}
-use Rattle.wire.specs.Layout.{Rule, free, lengthTo, countTo, allows, breach, Layout, stop, noArm, arm, number, plain, buffer, counted, one, _then_}
-use Rattle.wire.specs.Reading.{Part, num, tag, span, Ans, found, refused, Parsed, parsed, next, when, also, Reader, left, piece, field, walk, list, read}
+use Rattle.wire.specs.Faults.{short, tooLong, tooManyItems}
+use Rattle.wire.specs.Layout.{Rule, free, lengthTo, countTo, allows, breach, Layout, stop, plain, buffer, counted, one}
+use Rattle.wire.specs.Reading.{Part, num, span, Ans, found, refused, Parsed, parsed, next, also, Reader, left, piece, field, walk, list, read}
 use Rattle.wire.proofs.Steps.{found-refused, found-same, parsed-same, next-found, when-found}
-use Rattle.wire.proofs.Then.{then-found, then-refused}
 
--- ---- what takes no bytes: the end, an arm, and an arm that is not there
+-- ---- what takes no bytes
 
-module _ (src : List ℕ) (at : ℕ) where
-  pub read-stop : read stop src at ≡ parsed [] at
-  unfolding read
-  read-stop = refl
-
-  pub read-arm : (v t : ℕ) (l : Layout) → read (arm v t l) src at ≡ also (tag t) (read l src at)
-  unfolding read
-  read-arm v t l = refl
-
-  pub read-no-arm : (v : ℕ) → read (noArm v) src at ≡ refused (noSuchArm at v)
-  unfolding read
-  read-no-arm v = refl
+pub read-stop : (src : List ℕ) (at : ℕ) → read stop src at ≡ parsed [] at
+unfolding read
+read-stop src at = refl
 
 -- ---- bytes that are there, and bytes that are not
 
@@ -77,7 +67,7 @@ number-no-piece (found xs) k end p = absurd (found-refused p)
 number-no-piece (refused g) k end p = cc
 
 module _ (w : ℕ) (r : Rule) (src : List ℕ) (at : ℕ) where
-  judged : {n e : ℕ} → parsed (num n ∷ []) e ≡ read (one w free) src at → field w r src at ≡ when (allows r n) (found n) (refused (breach r at n))
+  judged : {n e : ℕ} → parsed (num n ∷ []) e ≡ read (one w free) src at → field w r src at ≡ cond (allows r n) (found n) (refused (breach r at n))
   unfolding read field
   judged p = let (xs, s, same, ends) = number-piece (piece w src at) p in rw (s, same)
 
@@ -90,49 +80,9 @@ pub one-ends : (w : ℕ) (src : List ℕ) (at : ℕ) {n e : ℕ} → parsed (num
 unfolding read field
 one-ends w src at p = let (xs, s, same, ends) = number-piece (piece w src at) p in (ends, piece-fits w src at s)
 
--- a number that was read, at the front of a layout: the rule allows it, or not; and one that was not read
-module _ (w : ℕ) (r : Rule) (k : ℕ → Layout) (src : List ℕ) (at : ℕ) where
-  pub number-found : {n e : ℕ} → parsed (num n ∷ []) e ≡ read (one w free) src at → allows r n ≡ true
-      → read (number w r k) src at ≡ also (num n) (read (k n) src e)
-  unfolding read
-  number-found p a = rw (judged w r src at p, a, one-ends w src at p .0)
-
-  pub number-breach : {n e : ℕ} → parsed (num n ∷ []) e ≡ read (one w free) src at → allows r n ≡ false
-      → read (number w r k) src at ≡ refused (breach r at n)
-  unfolding read
-  number-breach p a = rw (judged w r src at p, a)
-
-  pub number-refused : {f : Refusal} → refused f ≡ read (one w free) src at → read (number w r k) src at ≡ refused f
-  unfolding read
-  number-refused p = rw (unjudged w r src at p)
-
--- ---- plain bytes
-
-module _ (n : ℕ) (l : Layout) (src : List ℕ) (at : ℕ) where
-  pub plain-found : {p : Part} {e : ℕ} → parsed (p ∷ []) e ≡ read (plain n stop) src at → read (plain n l) src at ≡ also p (read l src e)
-  unfolding _then_
-  plain-found q = then-found (plain n stop) l src at q
-
-  pub plain-refused : {f : Refusal} → refused f ≡ read (plain n stop) src at → read (plain n l) src at ≡ refused f
-  unfolding _then_
-  plain-refused q = then-refused (plain n stop) l src at q
-
--- they end n bytes on, and are in the input
-pub plain-ends : (n : ℕ) (src : List ℕ) (at : ℕ) {ps : List Part} {e : ℕ} → parsed ps e ≡ read (plain n stop) src at → (e ≡ at + n) × (n ≤ left src at)
-unfolding read
-plain-ends n src at p = let (xs, s, q) = next-found (piece n src at) _ (sym p) in (sym (parsed-same q .1), piece-fits n src at s)
-
 -- ---- a buffer
 
 module _ (w m : ℕ) (l : Layout) (src : List ℕ) (at : ℕ) where
-  pub buffer-found : {p : Part} {e : ℕ} → parsed (p ∷ []) e ≡ read (buffer w m stop) src at → read (buffer w m l) src at ≡ also p (read l src e)
-  unfolding _then_
-  buffer-found q = then-found (buffer w m stop) l src at q
-
-  pub buffer-refused : {f : Refusal} → refused f ≡ read (buffer w m stop) src at → read (buffer w m l) src at ≡ refused f
-  unfolding _then_
-  buffer-refused q = then-refused (buffer w m stop) l src at q
-
   -- it is a length, and behind it that many plain bytes
   pub buffer-body : {n e : ℕ} → parsed (num n ∷ []) e ≡ read (one w free) src at → n ≤ m → read (buffer w m l) src at ≡ read (plain n l) src e
   unfolding read
@@ -147,31 +97,9 @@ module _ (w m : ℕ) (l : Layout) (src : List ℕ) (at : ℕ) where
   unfolding read
   buffer-short p = rw (unjudged w (lengthTo m) src at p)
 
--- it ends behind its length, at most m bytes on, and is in the input
-pub buffer-ends : (w m : ℕ) (src : List ℕ) (at : ℕ) {ps : List Part} {e : ℕ} → parsed ps e ≡ read (buffer w m stop) src at
-    → (at + w ≤ e) × (e ≤ at + w + m) × (e - at ≤ left src at)
-unfolding read field
-buffer-ends w m src at {e = e} p =
-    let (n, sized, q) = next-found (field w (lengthTo m) src at) _ (sym p) in
-    let (ds, s, r) = next-found (piece w src at) _ sized in
-    let (most, same) = when-found (leb (be ds) m) _ _ r in
-    let (xs, t, last) = next-found (piece n src (at + w)) _ q in
-    let ends : e ≡ at + w + n = sym (parsed-same last .1) in
-    let size : be ds ≡ n = found-same same in
-    omega (arith, leb-true (be ds) m most, piece-fits w src at s, piece-fits n src (at + w) t)
-
 -- ---- a list
 
 module _ (m : ℕ) (i l : Layout) (src : List ℕ) (at : ℕ) where
-  pub counted-found : {p : Part} {e : ℕ} → parsed (p ∷ []) e ≡ read (counted m i stop) src at → read (counted m i l) src at ≡ also p (read l src e)
-  unfolding _then_
-  counted-found q = then-found (counted m i stop) l src at q
-
-  pub counted-refused : {f : Refusal} → refused f ≡ read (counted m i stop) src at → read (counted m i l) src at ≡ refused f
-  unfolding _then_
-  counted-refused q = then-refused (counted m i stop) l src at q
-
-  -- the same, by where its items end
   pub list-found : {e : ℕ} → found e ≡ list m (λ s a. read i s a) src at → read (counted m i l) src at ≡ also (span at (e - at)) (read l src e)
   unfolding read
   list-found q = rw (← q)

@@ -3,7 +3,7 @@ use Prim.Native.Nat.{ℕ, zero, suc, _+_, _-_, _<_}
 use native.Mathlib.Omega.{arith}
 use mathlib.Core.Path.{_≡_, refl, sym, ap, _∙_}
 use mathlib.Core.Logic.{_⊎_, inl, inr}
-use mathlib.Core.Bool.{Bool, true, false}
+use mathlib.Core.Bool.{Bool, true, false, cond}
 use mathlib.Core.List.{List}
 use lib.ListN.{length, length-append}
 use lib.Dec.{leb}
@@ -11,7 +11,7 @@ use borrow.Author.Tests.{le-leb, lt-leb, leb-false}
 use Rattle.wire.specs.Bytes.{Bytes, be, digits}
 use Rattle.wire.specs.declared.fault.Refusal.{Refusal}
 use Rattle.wire.specs.Layout.{Rule, Layout, stop, noArm, arm, number, plain, buffer, counted, lengthTo, countTo, allows, breach}
-use Rattle.wire.specs.Reading.{Part, num, tag, span, Ans, found, refused, when, next, also, Parsed, left, piece, field, walk, list, read}
+use Rattle.wire.specs.Reading.{Part, num, tag, span, Ans, found, refused, next, also, Parsed, left, piece, field, walk, list, read}
 use Rattle.wire.specs.Faults.{short}
 use Rattle.wire.specs.Grammar.{Stands, Starts}
 use Rattle.wire.specs.Refusals.{Field, NoNumber, ends-early, not-allowed, Refuses, RefusesItems, no-arm, no-number, no-bytes, no-length, no-body, no-count, in-list, past-arm, past-number, past-bytes, past-buffer, past-list, in-item, past-item}
@@ -70,7 +70,7 @@ also-refused : (p : Part) (a : Ans Parsed) {f : Refusal} → also p a ≡ refuse
 also-refused p (found r) e = absurd (found-refused (sym e))
 also-refused p (refused g) e = e
 
-pub when-refused : {A : Type 0} (b : Bool) (x : A) (g : Refusal) {f : Refusal} → when b (found x) (refused g) ≡ refused f → (b ≡ false) × (f ≡ g)
+pub when-refused : {A : Type 0} (b : Bool) (x : A) (g : Refusal) {f : Refusal} → cond b (found x) (refused g) ≡ refused f → (b ≡ false) × (f ≡ g)
 when-refused true x g p = absurd (found-refused (sym p))
 when-refused false x g p = (refl, sym (refused-same p))
 
@@ -84,7 +84,7 @@ field-refused : (w : ℕ) (r : Rule) (src : List ℕ) (at : ℕ) {f : Refusal} �
 unfolding field
 field-refused w r src at {f} b p = go (next-refused (piece w src at) _ p)
   where
-    go : (piece w src at ≡ refused f) ⊎ ((xs : List ℕ) × (piece w src at ≡ found xs) × (when (allows r (be xs)) (found (be xs)) (refused (breach r at (be xs))) ≡ refused f)) → NoNumber src w r at f
+    go : (piece w src at ≡ refused f) ⊎ ((xs : List ℕ) × (piece w src at ≡ found xs) × (cond (allows r (be xs)) (found (be xs)) (refused (breach r at (be xs))) ≡ refused f)) → NoNumber src w r at f
     go (inl e) = let (h, same) = piece-refused w src at e in ends-early h same
     go (inr t) =
         let xs = t .0 in

@@ -2,7 +2,7 @@
 use Prim.Native.Nat.{ℕ, _^_, _<_}
 use native.Mathlib.Omega.{arith}
 use mathlib.Core.Path.{_≡_, refl, ap}
-use mathlib.Core.Bool.{Bool, true, false}
+use mathlib.Core.Bool.{Bool, true, false, cond}
 use mathlib.Core.List.{List}
 use lib.ListN.{length}
 use lib.Dec.{leb}
@@ -10,7 +10,7 @@ use borrow.Author.Tests.{le-leb, leb-true}
 use Rattle.wire.specs.declared.fault.Refusal.{Refusal}
 use Rattle.wire.specs.Bytes.{Bytes, be, digits}
 use Rattle.wire.specs.Layout.{Rule, allows, breach}
-use Rattle.wire.specs.Reading.{Part, Ans, found, refused, Parsed, parsed, next, when, also, left, piece, field}
+use Rattle.wire.specs.Reading.{Part, Ans, found, refused, Parsed, parsed, next, also, left, piece, field}
 use Rattle.wire.specs.Grammar.{Stands}
 use Rattle.wire.proofs.Digits.{length-digits, be-digits, be-lt, digits-be}
 use Rattle.wire.proofs.Stand.{stands-of, stands-same, stands-left, stands-bytes}
@@ -38,7 +38,7 @@ pub also-found : (p : Part) (a : Ans Parsed) {r : Parsed} → also p a ≡ found
 also-found p (found q) e = (q, refl, cc)
 also-found p (refused f) e = absurd (found-refused e)
 
-pub when-found : {A : Type 0} (b : Bool) (a : Ans A) (f : Refusal) {x : A} → when b a (refused f) ≡ found x → (b ≡ true) × (a ≡ found x)
+pub when-found : {A : Type 0} (b : Bool) (a : Ans A) (f : Refusal) {x : A} → cond b a (refused f) ≡ found x → (b ≡ true) × (a ≡ found x)
 when-found true a f p = (refl, p)
 when-found false a f p = absurd (found-refused p)
 

@@ -3,7 +3,7 @@
 use Prim.Native.Nat.{ℕ, _+_, _-_, _^_, _≤_, _<_}
 use native.Mathlib.Nat.{add-assoc, add-zero}
 use mathlib.Core.Path.{_≡_, refl, sym, ap, _∙_}
-use mathlib.Core.Bool.{Bool, true, false}
+use mathlib.Core.Bool.{Bool, true, false, cond}
 use mathlib.Core.List.{List, [], _∷_, _++_, append-assoc}
 use lib.ListN.{length, length-append}
 use lib.Dec.{eqb}
@@ -13,7 +13,7 @@ use Rattle.wire.specs.Grammar.{Token, Spells, ends, holds, says, shows, 
 use Rattle.wire.specs.declared.fault.Refusal.{Refusal}
 use Rattle.wire.specs.Faults.{mismatch}
 use Rattle.wire.specs.Layout.{Rule, allows, Layout, stop, noArm, arm, number, plain, buffer, counted, _then_, lengthTo}
-use Rattle.wire.specs.Reading.{Part, num, tag, span, Ans, found, refused, Parsed, parsed, next, also, piece, field, when, list, read}
+use Rattle.wire.specs.Reading.{Part, num, tag, span, Ans, found, refused, Parsed, parsed, next, also, piece, field, list, read}
 use Rattle.wire.specs.Writing.{cut, spelt, whole, moved, ahead, onto, lay}
 use Rattle.wire.specs.Unwritten.{Shaped}
 use Rattle.wire.proofs.Digits.{length-digits}
@@ -60,7 +60,7 @@ next-both : {A : Type 0} (a : Ans A) (f g : A → Ans Parsed) (k : ℕ → Ans P
 next-both (found x) f g k h = h x
 next-both (refused e) f g k h = refl
 
-behind-also : (p : Part) (ps : List Part) (a : Ans Parsed) → also p (behind ps a) ≡ behind (p ∷ ps) a
+pub behind-also : (p : Part) (ps : List Part) (a : Ans Parsed) → also p (behind ps a) ≡ behind (p ∷ ps) a
 behind-also p ps (found r) = refl
 behind-also p ps (refused f) = refl
 
@@ -68,7 +68,7 @@ also-both : (p : Part) (a : Ans Parsed) (b : Ans Parsed) (k : ℕ → Ans Parsed
 also-both p (found r) b k h = rw h (behind-also p (r .parts) (k (r .stops)))
 also-both p (refused f) b k h = rw h
 
-behind-none : (a : Ans Parsed) → a ≡ behind [] a
+pub behind-none : (a : Ans Parsed) → a ≡ behind [] a
 behind-none (found r) = refl
 behind-none (refused f) = refl
 
@@ -143,7 +143,7 @@ next-onto at (found x) f g k h = h x refl
 next-onto at (refused e) f g k h = refl
 
 -- what a test lets through
-when-onto : (at : ℕ) (t : Bool) (a c : Ans (List ℕ)) (f : Refusal) (k : ℕ → Ans (List ℕ)) → (t ≡ true → c ≡ onto at a k) → when t c (refused f) ≡ onto at (when t a (refused f)) k
+when-onto : (at : ℕ) (t : Bool) (a c : Ans (List ℕ)) (f : Refusal) (k : ℕ → Ans (List ℕ)) → (t ≡ true → c ≡ onto at a k) → cond t c (refused f) ≡ onto at (cond t a (refused f)) k
 when-onto at true a c f k h = h refl
 when-onto at false a c f k h = refl
 

@@ -1,7 +1,7 @@
 -- What a reader of a layout answers on any bytes: the record's parts and its end, or the first refusal in wire order. Assumes nothing.
 use Prim.Native.Nat.{ℕ, zero, suc, _+_, _-_}
 use mathlib.Core.List.{List, [], _∷_}
-use mathlib.Core.Bool.{Bool, true, false}
+use mathlib.Core.Bool.{cond}
 use lib.ListN.{length, take, drop}
 use lib.Dec.{leb}
 use Rattle.wire.specs.declared.fault.Refusal.{Refusal}
@@ -25,11 +25,6 @@ abbrev pub next : {A B : Type 0} → Ans A → (A → Ans B) → Ans B
 next (found a) k = k a
 next (refused f) k = refused f
 
--- the first answer where the test holds, and else the second
-abbrev pub when : {A : Type 0} → Bool → Ans A → Ans A → Ans A
-when true a b = a
-when false a b = b
-
 -- the parts of a record in wire order, and the place where it ends
 pub record Parsed : Type 0 where
   pub parts : List Part
@@ -43,10 +38,6 @@ parsed ps e = found (record { parts = ps; stops = e })
 abbrev pub also : Part → Ans Parsed → Ans Parsed
 also p a = next a (λ r. parsed (p ∷ r .parts) (r .stops))
 
--- an answer with parts in front of its own
-abbrev pub fronted : (List Part → List Part) → Ans Parsed → Ans Parsed
-fronted g a = next a (λ r. parsed (g (r .parts)) (r .stops))
-
 -- In the readers below src is the whole input, and `at` the place where to read on.
 
 abbrev pub Reader : Type 0 → Type 0
@@ -58,11 +49,11 @@ left src at = length src - at
 
 -- the n bytes that stand there
 unfoldable pub piece : ℕ → Reader (List ℕ)
-piece n src at = when (leb n (left src at)) (found (take n (drop at src))) (refused (short at n))
+piece n src at = cond (leb n (left src at)) (found (take n (drop at src))) (refused (short at n))
 
 -- a number of w bytes that the rule allows
 unfoldable pub field : ℕ → Rule → Reader ℕ
-field w r src at = next (piece w src at) (λ xs. let n = be xs in when (allows r n) (found n) (refused (breach r at n)))
+field w r src at = next (piece w src at) (λ xs. let n = be xs in cond (allows r n) (found n) (refused (breach r at n)))
 
 -- n items, one behind the other; the first refusal decides. The answer is where they end
 abbrev pub walk : Reader Parsed → ℕ → Reader ℕ
@@ -96,4 +87,8 @@ read (counted m i l) src at =
 unfoldable pub readWhole : Layout → Reader Parsed
 readWhole l src at =
     next (read l src at)
-    (λ r. when (leb (length src) (r .stops)) (found r) (refused (trailing (r .stops) (left src (r .stops)))))
+    (λ r. cond (leb (length src) (r .stops)) (found r) (refused (trailing (r .stops) (left src (r .stops)))))
+
+-- where what was read ends
+abbrev pub endOf : Ans Parsed → Ans ℕ
+endOf a = next a (λ r. found (r .stops))

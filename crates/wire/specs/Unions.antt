@@ -1,51 +1,36 @@
--- Unions: a table says which arm a selector chooses, and the arm's number what it holds. Assumes nothing.
+-- Unions: one table says which arm each selector chooses, and what that arm holds. Assumes nothing.
 use Prim.Native.Nat.{ℕ}
-use mathlib.Core.Bool.{Bool, true, false}
+use mathlib.Core.Bool.{Bool, false, cond}
 use mathlib.Core.List.{List, [], _∷_}
 use lib.Dec.{eqb}
 use Rattle.wire.specs.declared.choice.Choice.{Choice}
 use Rattle.wire.specs.declared.choice.Choice.the-variants.{Nothing, The}
-use Rattle.wire.specs.Layout.{Layout, stop, noArm, arm}
+use Rattle.wire.specs.Layout.{Layout, noArm, arm}
+use Rattle.wire.specs.Reading.{Part}
+use Rattle.wire.specs.Parts.{onArm}
 
--- a row of a table: a selector's code, and the arm that it chooses
+-- a row of a union's table: a selector's code, the number of the arm that it chooses, and what that arm holds
 pub record Row : Type 0 where
-  pub code : ℕ
+  pub selector : ℕ
   pub chooses : ℕ
-
-abbrev pub row : ℕ → ℕ → Row
-row c t = record { code = c; chooses = t }
-
--- a selector whose arm has its code for a number
-abbrev pub own : ℕ → Row
-own c = row c c
-
--- the first choice where the test holds, and else the second
-abbrev pub choose : Bool → Choice → Choice → Choice
-choose true a b = a
-choose false a b = b
-
--- the arm that the selector v chooses
-abbrev pub look : List Row → (v : ℕ) → Choice
-look [] v = Nothing
-look (r ∷ rs) v = choose (eqb v (r .code)) (The (r .chooses)) (look rs v)
-
--- an arm, and what it holds
-pub record Case : Type 0 where
-  pub arm : ℕ
   pub holds : Layout
 
-abbrev pub case : ℕ → Layout → Case
-case t l = record { arm = t; holds = l }
+abbrev pub row : (selector arm : ℕ) → Layout → Row
+row v t l = record { selector = v; chooses = t; holds = l }
 
--- the first layout where the test holds, and else the second
-abbrev pub pick : Bool → Layout → Layout → Layout
-pick true a b = a
-pick false a b = b
+-- a selector whose arm has its code for a number
+abbrev pub own : ℕ → Layout → Row
+own v l = row v v l
 
--- what the arm t holds: nothing, if it is not among the cases
-abbrev pub by : List Case → (t : ℕ) → Layout
-by [] t = stop
-by (c ∷ cs) t = pick (eqb t (c .arm)) (c .holds) (by cs t)
+-- the arm that the selector v chooses: none, if it has no row
+abbrev pub armOf : List Row → (v : ℕ) → Choice
+armOf [] v = Nothing
+armOf (r ∷ rs) v = cond (eqb v (r .selector)) (The (r .chooses)) (armOf rs v)
+
+-- what the arm t holds, by the first row that chooses it; no bytes spell an arm that no row chooses
+abbrev pub bodyOf : List Row → (t : ℕ) → Layout
+bodyOf [] t = noArm t
+bodyOf (r ∷ rs) t = cond (eqb t (r .chooses)) (r .holds) (bodyOf rs t)
 
 -- a union whose selector is v: the arm that is chosen, with what it holds
 abbrev pub union : Choice → (body : ℕ → Layout) → (v : ℕ) → Layout
@@ -56,3 +41,7 @@ union (The t) body v = arm v t (body t)
 abbrev pub isArm : Choice → (t : ℕ) → Bool
 isArm Nothing t = false
 isArm (The u) t = eqb t u
+
+-- the arm that the parts of a union hold
+abbrev pub held : List Part → ℕ
+held ps = onArm 0 ps (λ t qs. t)

@@ -11,6 +11,7 @@ use Rattle.wire.specs.Layout.{Rule, allows, breach, Layout, stop, noArm,
 use Rattle.wire.specs.Reading.{Part, num, tag, span}
 use Rattle.wire.specs.Grammar.{Items}
 use Rattle.wire.specs.Refusals.{Refuses}
+use Rattle.wire.specs.Parts.{onEnd, onNumber, onArm, onSpan}
 use Rattle.wire.specs.Writing.{further}
 
 -- the span of src with that start and length lies within it and shows xs
@@ -84,26 +85,10 @@ pub data Unwritten (src : List ℕ) : Layout → List Part → ℕ → Refusal �
 -- The shapes that the records of the code have: where the layout has a number, a union or bytes, the parts have a number that the
 -- field's width holds, an arm or a span. Of a wrong arm nothing is asked: nothing is written behind it.
 abbrev pub Shaped : Layout → List Part → Type 0
-Shaped stop [] = Unit {0}
-Shaped stop (p ∷ ps) = ⊥
+Shaped stop ps = onEnd ⊥ ps (Unit {0})
 Shaped (noArm v) ps = Unit {0}
-Shaped (arm v t l) [] = ⊥
-Shaped (arm v t l) (num n ∷ ps) = ⊥
-Shaped (arm v t l) (tag u ∷ ps) = u ≡ t → Shaped l ps
-Shaped (arm v t l) (span start len ∷ ps) = ⊥
-Shaped (number w r k) [] = ⊥
-Shaped (number w r k) (num n ∷ ps) = (n < 256 ^ w) × (allows r n ≡ true → Shaped (k n) ps)
-Shaped (number w r k) (tag u ∷ ps) = ⊥
-Shaped (number w r k) (span start len ∷ ps) = ⊥
-Shaped (plain n l) [] = ⊥
-Shaped (plain n l) (num m ∷ ps) = ⊥
-Shaped (plain n l) (tag u ∷ ps) = ⊥
-Shaped (plain n l) (span start len ∷ ps) = (len ≡ n) × Shaped l ps
-Shaped (buffer w m l) [] = ⊥
-Shaped (buffer w m l) (num n ∷ ps) = ⊥
-Shaped (buffer w m l) (tag u ∷ ps) = ⊥
-Shaped (buffer w m l) (span start len ∷ ps) = (len ≤ m → len < 256 ^ w) × Shaped l ps
-Shaped (counted m i l) [] = ⊥
-Shaped (counted m i l) (num n ∷ ps) = ⊥
-Shaped (counted m i l) (tag u ∷ ps) = ⊥
-Shaped (counted m i l) (span start len ∷ ps) = Shaped l ps
+Shaped (arm v t l) ps = onArm ⊥ ps (λ u qs. u ≡ t → Shaped l qs)
+Shaped (number w r k) ps = onNumber ⊥ ps (λ n qs. (n < 256 ^ w) × (allows r n ≡ true → Shaped (k n) qs))
+Shaped (plain n l) ps = onSpan ⊥ ps (λ start len qs. (len ≡ n) × Shaped l qs)
+Shaped (buffer w m l) ps = onSpan ⊥ ps (λ start len qs. (len ≤ m → len < 256 ^ w) × Shaped l qs)
+Shaped (counted m i l) ps = onSpan ⊥ ps (λ start len qs. Shaped l qs)

@@ -66,13 +66,13 @@ pub fn plain(s: &[u8], at: usize, n: usize) -> SpanRead
 }
 
 // A length of a width, at most `limit`, that many bytes, and the place behind them.
-pub fn buffer(s: &[u8], at: usize, w: Width, limit: usize) -> SpanRead
+pub fn buffer(s: &[u8], at: usize, w: Width, limit: u16) -> SpanRead
     ensures { λ r. ⌜ spanAnswer r ≡ read (buffer (widthOf w) limit stop) (now (s .entry)) at ⌝ }
 {
     match number(s, at, w) {
         NumberRead::Found(n, start) => {
             let len = n as usize;
-            if len <= limit {
+            if len <= limit as usize {
                 return plain(s, start, len);
             }
             SpanRead::No(Refusal::too_long(at, n))

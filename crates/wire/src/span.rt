@@ -6,7 +6,8 @@ ghost use Prim.Native.Nat.{_+_};
 ghost use lib.Dec.{leb};
 ghost use Rattle.wire.specs.Answers.{startOf, lenOf, spanPart, measureAnswer};
 ghost use Rattle.wire.specs.Reading.{span};
-ghost use Rattle.wire.specs.Writing.{cut, partOf, sizeOf};
+ghost use Rattle.wire.specs.Writing.{cut};
+ghost use Rattle.wire.specs.Fields.{partOf, sizeOf};
 
 pub struct Span {
     start: usize,

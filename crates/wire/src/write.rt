@@ -11,7 +11,8 @@ ghost use lib.ListN.{length, take, drop};
 ghost use Rattle.wire.specs.Answers.{widthOf, startOf, lenOf, measureAnswer};
 ghost use Rattle.wire.specs.Bytes.{digits};
 ghost use Rattle.wire.specs.Reading.{found};
-ghost use Rattle.wire.specs.Writing.{cut, written, filled};
+ghost use Rattle.wire.specs.Writing.{cut};
+ghost use Rattle.wire.specs.Filling.{written, filled};
 
 // The last digit of n.
 fn low(n: u64) -> u8

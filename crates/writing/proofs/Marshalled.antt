@@ -6,7 +6,7 @@ use Rattle.wire.specs.declared.measure.Measure.{Measure}
 use Rattle.wire.specs.Answers.{measureAnswer}
 use Rattle.wire.specs.Layout.{Layout}
 use Rattle.wire.specs.Reading.{Part}
-use Rattle.wire.specs.Writing.{written, filled}
+use Rattle.wire.specs.Filling.{written, filled}
 use Rattle.plans.specs.Steps.{steps, spell, Adds}
 use Rattle.plans.specs.declared.plan.Plan.{Plan}
 use Rattle.plans.proofs.Laws.{adds-spell}

@@ -12,10 +12,11 @@ use Rattle.wire.specs.Faults.{noRoom}
 use Rattle.wire.specs.Layout.{Layout}
 use Rattle.wire.specs.Reading.{Part, found, parsed, read}
 use Rattle.wire.specs.Grammar.{Spells, shown}
-use Rattle.wire.specs.Writing.{lay, written}
+use Rattle.wire.specs.Writing.{lay}
+use Rattle.wire.specs.Filling.{written}
 use Rattle.wire.specs.Unwritten.{Unwritten}
 use Rattle.wire.proofs.Answers.{measure-answer-once}
-use Rattle.kinds.specs.Kinds.{layoutOf}
+use Rattle.format.specs.Kinds.{layoutOf}
 use Rattle.records.specs.Sizes.{sizesOf}
 use Rattle.records.specs.Within.{Within}
 use Rattle.records.proofs.Rewritten as rewritten

@@ -18,7 +18,7 @@ use schemes::tpmt::TpmtRsaScheme;
 use schemes::tpmt::TpmtSigScheme;
 use schemes::tpmt::TpmtSymDef;
 use wire::measure::Measure;
-ghost use Rattle.kinds.specs.Kinds.{tpmtHa, tpmtSymDef, tpmtKdfScheme, tpmtKeyedhashScheme, tpmtSigScheme, tpmtAsymScheme, tpmtPublicParms, tpmtSignature, tpmtPublic, tpmtSensitive, tpmsAttest, tpmlPcrSelection};
+ghost use Rattle.format.specs.Kinds.{tpmtHa, tpmtSymDef, tpmtKdfScheme, tpmtKeyedhashScheme, tpmtSigScheme, tpmtAsymScheme, tpmtPublicParms, tpmtSignature, tpmtPublic, tpmtSensitive, tpmsAttest, tpmlPcrSelection};
 ghost use Rattle.schemes.specs.Parts.{tpmtHaParts, tpmtSymDefParts, tpmtKdfSchemeParts, tpmtKeyedhashSchemeParts, tpmtSigSchemeParts, tpmtRsaSchemeParts, tpmtEccSchemeParts, tpmtRsaDecryptParts, tpmlPcrSelectionParts};
 ghost use Rattle.keys.specs.Parts.{tpmtPublicParmsParts, tpmtSignatureParts, tpmtPublicParts, tpmtSensitiveParts};
 ghost use Rattle.attest.specs.Parts.{tpmsAttestParts};

@@ -3,8 +3,8 @@ use borrow.Author.Needs.{needs}
 use native.Mathlib.Omega.{arith}
 use Rattle.wire.specs.declared.width.Width.the-variants.{Two, Four, Eight}
 use Rattle.wire.specs.Layout.{free}
-use Rattle.kinds.specs.Codes.{attestation, magic}
-use Rattle.kinds.specs.Kinds.{tpmsAttest}
+use Rattle.format.specs.Codes.{attestation, magic}
+use Rattle.format.specs.Kinds.{tpmsAttest}
 use Rattle.plans.proofs.Laws.{adds-then, adds-number, adds-buffer}
 use Rattle.flat.proofs.attestation.attest.Statement.{statement}
 use Rattle.flat.proofs.attestation.attest.Tie as tie

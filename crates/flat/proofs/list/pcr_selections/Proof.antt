@@ -1,6 +1,6 @@
 -- The list is one step. Assumes nothing.
 use borrow.Author.Needs.{needs}
-use Rattle.kinds.specs.Kinds.{tpmlPcrSelection}
+use Rattle.format.specs.Kinds.{tpmlPcrSelection}
 use Rattle.plans.proofs.Laws.{adds-last-list}
 use Rattle.flat.proofs.list.pcr_selections.Statement.{statement}
 use Rattle.flat.proofs.list.pcr_selections.Tie as tie

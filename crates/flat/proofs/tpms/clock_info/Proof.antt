@@ -2,8 +2,8 @@
 use borrow.Author.Needs.{needs}
 use Rattle.wire.specs.declared.width.Width.the-variants.{One, Four, Eight}
 use Rattle.wire.specs.Layout.{free}
-use Rattle.kinds.specs.Codes.{yesNo}
-use Rattle.kinds.specs.Kinds.{tpmsClockInfo}
+use Rattle.format.specs.Codes.{yesNo}
+use Rattle.format.specs.Kinds.{tpmsClockInfo}
 use Rattle.plans.proofs.Laws.{adds-number, adds-last-number}
 use Rattle.flat.proofs.tpms.clock_info.Statement.{statement}
 use Rattle.flat.proofs.tpms.clock_info.Tie as tie

@@ -3,8 +3,8 @@ use borrow.Author.Needs.{needs}
 use native.Mathlib.Omega.{arith}
 use Rattle.wire.specs.declared.width.Width.the-variants.{Two, Eight}
 use Rattle.wire.specs.Layout.{free}
-use Rattle.kinds.specs.Codes.{alg}
-use Rattle.kinds.specs.Kinds.{tpmsCommandAuditInfo}
+use Rattle.format.specs.Codes.{alg}
+use Rattle.format.specs.Kinds.{tpmsCommandAuditInfo}
 use Rattle.plans.proofs.Laws.{adds-number, adds-buffer, adds-last-buffer}
 use Rattle.flat.proofs.tpms.command_audit_info.Statement.{statement}
 use Rattle.flat.proofs.tpms.command_audit_info.Tie as tie

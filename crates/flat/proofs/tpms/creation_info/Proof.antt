@@ -1,7 +1,7 @@
 -- The steps are the layout's fields. Assumes nothing.
 use borrow.Author.Needs.{needs}
 use native.Mathlib.Omega.{arith}
-use Rattle.kinds.specs.Kinds.{tpmsCreationInfo}
+use Rattle.format.specs.Kinds.{tpmsCreationInfo}
 use Rattle.plans.proofs.Laws.{adds-buffer, adds-last-buffer}
 use Rattle.flat.proofs.tpms.creation_info.Statement.{statement}
 use Rattle.flat.proofs.tpms.creation_info.Tie as tie

@@ -1,8 +1,8 @@
 -- The steps are the layout's fields. Assumes nothing.
 use borrow.Author.Needs.{needs}
 use Rattle.wire.specs.declared.width.Width.the-variants.{Two}
-use Rattle.kinds.specs.Codes.{curve}
-use Rattle.kinds.specs.Kinds.{tpmsEccParms}
+use Rattle.format.specs.Codes.{curve}
+use Rattle.format.specs.Kinds.{tpmsEccParms}
 use Rattle.plans.proofs.Laws.{adds-then, adds-number}
 use Rattle.flat.proofs.tpms.ecc_parms.Statement.{statement}
 use Rattle.flat.proofs.tpms.ecc_parms.Tie as tie

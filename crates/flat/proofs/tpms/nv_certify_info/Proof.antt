@@ -3,7 +3,7 @@ use borrow.Author.Needs.{needs}
 use native.Mathlib.Omega.{arith}
 use Rattle.wire.specs.declared.width.Width.the-variants.{Two}
 use Rattle.wire.specs.Layout.{free}
-use Rattle.kinds.specs.Kinds.{tpmsNvCertifyInfo}
+use Rattle.format.specs.Kinds.{tpmsNvCertifyInfo}
 use Rattle.plans.proofs.Laws.{adds-number, adds-buffer, adds-last-buffer}
 use Rattle.flat.proofs.tpms.nv_certify_info.Statement.{statement}
 use Rattle.flat.proofs.tpms.nv_certify_info.Tie as tie

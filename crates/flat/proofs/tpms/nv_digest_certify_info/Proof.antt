@@ -1,7 +1,7 @@
 -- The steps are the layout's fields. Assumes nothing.
 use borrow.Author.Needs.{needs}
 use native.Mathlib.Omega.{arith}
-use Rattle.kinds.specs.Kinds.{tpmsNvDigestCertifyInfo}
+use Rattle.format.specs.Kinds.{tpmsNvDigestCertifyInfo}
 use Rattle.plans.proofs.Laws.{adds-buffer, adds-last-buffer}
 use Rattle.flat.proofs.tpms.nv_digest_certify_info.Statement.{statement}
 use Rattle.flat.proofs.tpms.nv_digest_certify_info.Tie as tie

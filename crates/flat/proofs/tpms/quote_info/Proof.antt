@@ -1,7 +1,7 @@
 -- The steps are the layout's fields. Assumes nothing.
 use borrow.Author.Needs.{needs}
 use native.Mathlib.Omega.{arith}
-use Rattle.kinds.specs.Kinds.{tpmsQuoteInfo}
+use Rattle.format.specs.Kinds.{tpmsQuoteInfo}
 use Rattle.plans.proofs.Laws.{adds-then, adds-last-buffer}
 use Rattle.flat.proofs.tpms.quote_info.Statement.{statement}
 use Rattle.flat.proofs.tpms.quote_info.Tie as tie

@@ -2,7 +2,7 @@
 use borrow.Author.Needs.{needs}
 use Rattle.wire.specs.declared.width.Width.the-variants.{Two, Four}
 use Rattle.wire.specs.Layout.{free}
-use Rattle.kinds.specs.Kinds.{tpmsRsaParms}
+use Rattle.format.specs.Kinds.{tpmsRsaParms}
 use Rattle.plans.proofs.Laws.{adds-then, adds-number, adds-last-number}
 use Rattle.flat.proofs.tpms.rsa_parms.Statement.{statement}
 use Rattle.flat.proofs.tpms.rsa_parms.Tie as tie

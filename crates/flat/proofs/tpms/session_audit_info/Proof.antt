@@ -2,8 +2,8 @@
 use borrow.Author.Needs.{needs}
 use native.Mathlib.Omega.{arith}
 use Rattle.wire.specs.declared.width.Width.the-variants.{One}
-use Rattle.kinds.specs.Codes.{yesNo}
-use Rattle.kinds.specs.Kinds.{tpmsSessionAuditInfo}
+use Rattle.format.specs.Codes.{yesNo}
+use Rattle.format.specs.Kinds.{tpmsSessionAuditInfo}
 use Rattle.plans.proofs.Laws.{adds-number, adds-last-buffer}
 use Rattle.flat.proofs.tpms.session_audit_info.Statement.{statement}
 use Rattle.flat.proofs.tpms.session_audit_info.Tie as tie

@@ -2,8 +2,8 @@
 use borrow.Author.Needs.{needs}
 use native.Mathlib.Omega.{arith}
 use Rattle.wire.specs.declared.width.Width.the-variants.{Two}
-use Rattle.kinds.specs.Codes.{alg}
-use Rattle.kinds.specs.Kinds.{tpmsSignatureEcc}
+use Rattle.format.specs.Codes.{alg}
+use Rattle.format.specs.Kinds.{tpmsSignatureEcc}
 use Rattle.plans.proofs.Laws.{adds-number, adds-buffer, adds-last-buffer}
 use Rattle.flat.proofs.tpms.signature_ecc.Statement.{statement}
 use Rattle.flat.proofs.tpms.signature_ecc.Tie as tie

@@ -2,8 +2,8 @@
 use borrow.Author.Needs.{needs}
 use native.Mathlib.Omega.{arith}
 use Rattle.wire.specs.declared.width.Width.the-variants.{Two}
-use Rattle.kinds.specs.Codes.{alg}
-use Rattle.kinds.specs.Kinds.{tpmsSignatureRsa}
+use Rattle.format.specs.Codes.{alg}
+use Rattle.format.specs.Kinds.{tpmsSignatureRsa}
 use Rattle.plans.proofs.Laws.{adds-number, adds-last-buffer}
 use Rattle.flat.proofs.tpms.signature_rsa.Statement.{statement}
 use Rattle.flat.proofs.tpms.signature_rsa.Tie as tie

@@ -2,7 +2,7 @@
 use borrow.Author.Needs.{needs}
 use Rattle.wire.specs.declared.width.Width.the-variants.{Eight}
 use Rattle.wire.specs.Layout.{free}
-use Rattle.kinds.specs.Kinds.{tpmsTimeAttestInfo}
+use Rattle.format.specs.Kinds.{tpmsTimeAttestInfo}
 use Rattle.plans.proofs.Laws.{adds-then, adds-last-number}
 use Rattle.flat.proofs.tpms.time_attest_info.Statement.{statement}
 use Rattle.flat.proofs.tpms.time_attest_info.Tie as tie

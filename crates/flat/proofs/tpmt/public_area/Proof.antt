@@ -3,8 +3,8 @@ use borrow.Author.Needs.{needs}
 use native.Mathlib.Omega.{arith}
 use Rattle.wire.specs.declared.width.Width.the-variants.{Two, Four}
 use Rattle.wire.specs.Layout.{free}
-use Rattle.kinds.specs.Codes.{alg}
-use Rattle.kinds.specs.Kinds.{tpmtPublic}
+use Rattle.format.specs.Codes.{alg}
+use Rattle.format.specs.Kinds.{tpmtPublic}
 use Rattle.plans.proofs.Laws.{adds-then, adds-number, adds-buffer}
 use Rattle.flat.proofs.tpmt.public_area.Statement.{statement}
 use Rattle.flat.proofs.tpmt.public_area.Tie as tie

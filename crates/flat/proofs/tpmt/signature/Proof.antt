@@ -1,8 +1,8 @@
 -- The steps are the layout's fields. Assumes nothing.
 use borrow.Author.Needs.{needs}
 use Rattle.wire.specs.declared.width.Width.the-variants.{Two}
-use Rattle.kinds.specs.Codes.{alg}
-use Rattle.kinds.specs.Kinds.{tpmtSignature}
+use Rattle.format.specs.Codes.{alg}
+use Rattle.format.specs.Kinds.{tpmtSignature}
 use Rattle.plans.proofs.Laws.{adds-number}
 use Rattle.flat.proofs.tpmt.signature.Statement.{statement}
 use Rattle.flat.proofs.tpmt.signature.Tie as tie

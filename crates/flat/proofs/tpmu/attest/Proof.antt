@@ -2,7 +2,7 @@
 use borrow.Author.Needs.{needs}
 use mathlib.Core.Path.{refl, ap}
 use native.Mathlib.Omega.{arith}
-use Rattle.kinds.specs.Kinds.{tpmuAttestBody, tpmuAttest}
+use Rattle.format.specs.Kinds.{tpmuAttestBody, tpmuAttest}
 use Rattle.attest.specs.Parts.{tpmuAttestParts}
 use Rattle.plans.proofs.Laws.{adds-more}
 use Rattle.flat.proofs.Shapes.{holds-lists}

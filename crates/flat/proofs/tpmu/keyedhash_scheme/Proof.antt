@@ -2,7 +2,7 @@
 use borrow.Author.Needs.{needs}
 use mathlib.Core.Path.{refl, ap}
 use native.Mathlib.Omega.{arith}
-use Rattle.kinds.specs.Kinds.{tpmuKeyedhashSchemeBody, tpmuKeyedhashScheme}
+use Rattle.format.specs.Kinds.{tpmuKeyedhashSchemeBody, tpmuKeyedhashScheme}
 use Rattle.schemes.specs.Parts.{tpmuKeyedhashSchemeParts}
 use Rattle.plans.proofs.Laws.{adds-more}
 use Rattle.flat.proofs.Shapes.{holds, holds-none}
@@ -13,20 +13,20 @@ returns : tie.Need-returns
 unfolding tpmuKeyedhashScheme
 returns c =
     adds-more (omega arith)
-    (holds _ (c .before .before .before .before .before .before .keyedhash-arm .ensures) (c .before .before .before .before .before .matches-tag .ensures)
+    (holds _ (c .before .before .before .before .before .before .keyedhash-scheme-arm .ensures) (c .before .before .before .before .before .matches-tag .ensures)
     (c .before .before .before .before .due .ensures .0) tpmuKeyedhashSchemeBody (ap tpmuKeyedhashSchemeParts (c .before .before .x .given .1)) refl (c .scheme-hash .ensures))
 
 returns-2 : tie.Need-returns-2
 unfolding tpmuKeyedhashScheme
 returns-2 c =
-    holds _ (c .before .before .before .before .before .before .keyedhash-arm .ensures) (c .before .before .before .before .before .matches-tag .ensures)
+    holds _ (c .before .before .before .before .before .before .keyedhash-scheme-arm .ensures) (c .before .before .before .before .before .matches-tag .ensures)
     (c .before .before .before .before .due .ensures .0) tpmuKeyedhashSchemeBody (ap tpmuKeyedhashSchemeParts (c .before .before .x2 .given .1)) refl (c .scheme-xor .ensures)
 
 returns-3 : tie.Need-returns-3
 unfolding tpmuKeyedhashScheme
 returns-3 c =
     adds-more (omega arith)
-    (holds-none _ (c .before .before .before .before .keyedhash-arm .ensures) (c .before .before .before .matches-tag .ensures) (c .before .before .due .ensures .0) tpmuKeyedhashSchemeBody
+    (holds-none _ (c .before .before .before .before .keyedhash-scheme-arm .ensures) (c .before .before .before .matches-tag .ensures) (c .before .before .due .ensures .0) tpmuKeyedhashSchemeBody
     (ap tpmuKeyedhashSchemeParts (c .enum-told .given .1)) refl)
 
 pub keyedhash-scheme-spec : {M : Type 1} → statement M

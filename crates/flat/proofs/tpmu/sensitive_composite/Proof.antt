@@ -2,7 +2,7 @@
 use borrow.Author.Needs.{needs}
 use mathlib.Core.Path.{refl, ap}
 use native.Mathlib.Omega.{arith}
-use Rattle.kinds.specs.Kinds.{tpmuSensitiveCompositeBody, tpmuSensitiveComposite}
+use Rattle.format.specs.Kinds.{tpmuSensitiveCompositeBody, tpmuSensitiveComposite}
 use Rattle.keys.specs.Parts.{tpmuSensitiveCompositeParts}
 use Rattle.plans.proofs.Laws.{adds-last-buffer}
 use Rattle.flat.proofs.Shapes.{holds}
@@ -12,28 +12,28 @@ use Rattle.flat.proofs.tpmu.sensitive_composite.Tie as tie
 returns : tie.Need-returns
 unfolding tpmuSensitiveComposite
 returns c =
-    holds _ (c .before .before .before .before .before .before .sensitive-arm .ensures) (c .before .before .before .before .before .matches-tag .ensures)
+    holds _ (c .before .before .before .before .before .before .sensitive-composite-arm .ensures) (c .before .before .before .before .before .matches-tag .ensures)
     (c .before .before .before .before .due .ensures .0) tpmuSensitiveCompositeBody (ap tpmuSensitiveCompositeParts (c .before .before .x .given .1)) refl (adds-last-buffer 256 _ (omega arith)
     (c .buffer .ensures))
 
 returns-2 : tie.Need-returns-2
 unfolding tpmuSensitiveComposite
 returns-2 c =
-    holds _ (c .before .before .before .before .before .before .sensitive-arm .ensures) (c .before .before .before .before .before .matches-tag .ensures)
+    holds _ (c .before .before .before .before .before .before .sensitive-composite-arm .ensures) (c .before .before .before .before .before .matches-tag .ensures)
     (c .before .before .before .before .due .ensures .0) tpmuSensitiveCompositeBody (ap tpmuSensitiveCompositeParts (c .before .before .x2 .given .1)) refl (adds-last-buffer 66 _ (omega arith)
     (c .buffer2 .ensures))
 
 returns-3 : tie.Need-returns-3
 unfolding tpmuSensitiveComposite
 returns-3 c =
-    holds _ (c .before .before .before .before .before .before .sensitive-arm .ensures) (c .before .before .before .before .before .matches-tag .ensures)
+    holds _ (c .before .before .before .before .before .before .sensitive-composite-arm .ensures) (c .before .before .before .before .before .matches-tag .ensures)
     (c .before .before .before .before .due .ensures .0) tpmuSensitiveCompositeBody (ap tpmuSensitiveCompositeParts (c .before .before .x3 .given .1)) refl (adds-last-buffer 256 _ (omega arith)
     (c .buffer3 .ensures))
 
 returns-4 : tie.Need-returns-4
 unfolding tpmuSensitiveComposite
 returns-4 c =
-    holds _ (c .before .before .before .before .before .before .sensitive-arm .ensures) (c .before .before .before .before .before .matches-tag .ensures)
+    holds _ (c .before .before .before .before .before .before .sensitive-composite-arm .ensures) (c .before .before .before .before .before .matches-tag .ensures)
     (c .before .before .before .before .due .ensures .0) tpmuSensitiveCompositeBody (ap tpmuSensitiveCompositeParts (c .before .before .x4 .given .1)) refl (adds-last-buffer 32 _ (omega arith)
     (c .buffer4 .ensures))
 

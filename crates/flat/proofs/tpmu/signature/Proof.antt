@@ -2,7 +2,7 @@
 use borrow.Author.Needs.{needs}
 use mathlib.Core.Path.{refl, ap}
 use native.Mathlib.Omega.{arith}
-use Rattle.kinds.specs.Kinds.{tpmuSignatureBody, tpmuSignature}
+use Rattle.format.specs.Kinds.{tpmuSignatureBody, tpmuSignature}
 use Rattle.keys.specs.Parts.{tpmuSignatureParts}
 use Rattle.plans.proofs.Laws.{adds-more}
 use Rattle.flat.proofs.Shapes.{holds, holds-none}

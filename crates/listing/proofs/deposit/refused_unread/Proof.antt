@@ -1,8 +1,8 @@
 -- No kind first, and then the size. Assumes nothing.
 use borrow.Author.Needs.{needs}
 use native.Mathlib.Omega.{arith}
-use Rattle.records.proofs.ByKind.{outside}
-use Rattle.listing.proofs.Deposits.{is-kind, no-kind-unread, kind-unread}
+use Rattle.format.proofs.Numbered.{outside, is-kind}
+use Rattle.listing.proofs.Deposits.{no-kind-unread, kind-unread}
 use Rattle.listing.proofs.deposit.refused_unread.Statement.{statement}
 use Rattle.listing.proofs.deposit.refused_unread.Tie as tie
 

@@ -5,7 +5,7 @@ use native.Mathlib.Omega.{arith}
 use Rattle.wire.proofs.Rest.{told}
 use Rattle.wire.proofs.Stand.{bytes-of}
 use Rattle.schemes.specs.Answers.{tpmsPcrSelectionAnswer}
-use Rattle.plans.proofs.Putting.{puts-length}
+use Rattle.text.proofs.Putting.{puts-length}
 use Rattle.listing.proofs.Itemized.{Itemized, itemized-none, itemized-length, itemized-room, itemized-more, itemized-all, itemized-refused, item-fits}
 use Rattle.listing.proofs.item.put_items.Statement.{statement}
 use Rattle.listing.proofs.item.put_items.Tie as tie

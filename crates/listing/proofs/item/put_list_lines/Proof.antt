@@ -4,8 +4,8 @@ use Prim.Native.Nat.{_+_, _*_}
 use native.Mathlib.Omega.{arith}
 use Rattle.wire.specs.Answers.{lenOf}
 use Rattle.wire.proofs.Rest.{told}
-use Rattle.kinds.specs.Answers.{uint32Answer}
-use Rattle.plans.specs.declared.step.Word.{Word}
+use Rattle.format.specs.Answers.{uint32Answer}
+use Rattle.text.specs.declared.line.Word.{Word}
 use Rattle.plans.proofs.Items.{count-is, count-there}
 use Rattle.text.proofs.Rows.{puts-left, puts-both, puts-same, number-line-length}
 use Rattle.listing.proofs.Parts.{judged-part}

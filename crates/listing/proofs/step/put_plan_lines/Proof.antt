@@ -1,10 +1,10 @@
 -- The steps that were passed are put, and those that are left are spelled. Assumes nothing.
 use Prim.Native.Nat.{_-_}
 use native.Mathlib.Omega.{arith}
-use Rattle.wire.specs.Writing.{partOf}
+use Rattle.wire.specs.Fields.{partOf}
 use Rattle.plans.specs.Steps.{steps, spell}
 use Rattle.plans.proofs.Loops.{from}
-use Rattle.plans.proofs.Putting.{puts-length}
+use Rattle.text.proofs.Putting.{puts-length}
 use Rattle.listing.proofs.Planned.{Listed, listed-none, listed-near, listed-length, listed-owed, listed-more, listed-all}
 use Rattle.listing.proofs.step.put_plan_lines.Statement.{statement}
 use Rattle.listing.proofs.step.put_plan_lines.Tie as tie

@@ -3,7 +3,7 @@ use borrow.Author.Needs.{needs}
 use native.Mathlib.Omega.{arith}
 use mathlib.Core.Path.{_∙_}
 use Rattle.wire.specs.Answers.{startOf, lenOf}
-use Rattle.plans.specs.Lines.{spanLine}
+use Rattle.wire.specs.Lines.{spanLine}
 use Rattle.text.proofs.Rows.{puts-same}
 use Rattle.listing.proofs.Parts.{part-length, part-line, one-line}
 use Rattle.listing.proofs.step.put_span_line.Statement.{statement}

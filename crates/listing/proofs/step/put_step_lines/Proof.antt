@@ -4,9 +4,9 @@ use native.Mathlib.Omega.{arith}
 use mathlib.Core.Path.{ap, _∙_, subst}
 use lib.ListN.{length}
 use Rattle.wire.specs.Answers.{widthOf}
-use Rattle.plans.specs.Lines.{line}
-use Rattle.plans.specs.Steps.{sayWord}
-use Rattle.plans.proofs.Putting.{puts-none}
+use Rattle.wire.specs.Lines.{line}
+use Rattle.text.specs.Text.{sayWord}
+use Rattle.text.proofs.Putting.{puts-none}
 use Rattle.text.specs.Text.{lineText}
 use Rattle.text.proofs.Rows.{puts-same, number-line-length}
 use Rattle.listing.specs.Listable.{Asked}

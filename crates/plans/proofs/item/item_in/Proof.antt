@@ -4,7 +4,7 @@ use native.Mathlib.Omega.{arith}
 use mathlib.Core.Path.{subst}
 use Rattle.wire.specs.Answers.{measureAnswer}
 use Rattle.wire.proofs.Rest.{told}
-use Rattle.kinds.specs.Answers.{uint32Answer}
+use Rattle.format.specs.Answers.{uint32Answer}
 use Rattle.plans.specs.Walked.{itemAnswer, ItemInside}
 use Rattle.plans.proofs.Items.{legal-list, refused-list, count-is, count-there, in-source, item-found, item-refused, new-part}
 use Rattle.plans.proofs.item.item_in.Statement.{statement}

@@ -4,10 +4,10 @@ use Prim.Native.Nat.{_-_, _≤_}
 use native.Mathlib.Omega.{arith}
 use mathlib.Core.Path.{_≡_, sym, ap, _∙_}
 use Rattle.wire.specs.Reading.{read, refused}
-use Rattle.wire.specs.Writing.{pickItem}
+use Rattle.wire.specs.Items.{pickItem}
 use Rattle.wire.proofs.Rest.{told}
 use Rattle.wire.proofs.Stand.{bytes-of}
-use Rattle.kinds.specs.Kinds.{tpmsPcrSelection}
+use Rattle.format.specs.Kinds.{tpmsPcrSelection}
 use Rattle.schemes.specs.Answers.{tpmsPcrSelectionAnswer}
 use Rattle.plans.proofs.Items.{item-ends, pick-here, pick-on, pick-refused, pick-none, pick-start, cut-to, new-part, new-inside}
 use Rattle.plans.proofs.item.walk_to.Statement.{statement}

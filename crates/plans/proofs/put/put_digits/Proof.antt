@@ -3,7 +3,7 @@ use borrow.Author.Needs.{needs}
 use native.Mathlib.Omega.{arith}
 use mathlib.Core.Path.{sym, _∙_}
 use Rattle.wire.proofs.Digits.{length-digits}
-use Rattle.plans.proofs.Putting.{filled-puts}
+use Rattle.text.proofs.Putting.{filled-puts}
 use Rattle.plans.proofs.put.put_digits.Statement.{statement}
 use Rattle.plans.proofs.put.put_digits.Tie as tie
 

@@ -2,7 +2,7 @@
 use borrow.Author.Needs.{needs}
 use native.Mathlib.Omega.{arith}
 use Rattle.wire.proofs.Rest.{told}
-use Rattle.kinds.specs.Kinds.{tpmtPublic}
+use Rattle.format.specs.Kinds.{tpmtPublic}
 use Rattle.keys.specs.Answers.{tpmtPublicAnswer}
 use Rattle.records.proofs.Wholes.{whole-found, whole-trailing, whole-refused}
 use Rattle.records.proofs.whole.public_area.Statement.{statement}

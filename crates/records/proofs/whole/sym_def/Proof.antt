@@ -2,7 +2,7 @@
 use borrow.Author.Needs.{needs}
 use native.Mathlib.Omega.{arith}
 use Rattle.wire.proofs.Rest.{told}
-use Rattle.kinds.specs.Kinds.{tpmtSymDef}
+use Rattle.format.specs.Kinds.{tpmtSymDef}
 use Rattle.schemes.specs.Answers.{tpmtSymDefAnswer}
 use Rattle.records.proofs.Wholes.{whole-found, whole-trailing, whole-refused}
 use Rattle.records.proofs.whole.sym_def.Statement.{statement}

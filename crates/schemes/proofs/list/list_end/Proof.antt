@@ -5,8 +5,8 @@ use native.Mathlib.Omega.{arith}
 use Rattle.wire.specs.Reading.{read}
 use Rattle.wire.proofs.Rest.{told}
 use Rattle.wire.proofs.Leaves.{list-items, list-long, list-short}
-use Rattle.kinds.specs.Answers.{uint32Answer}
-use Rattle.kinds.specs.Kinds.{tpmsPcrSelection}
+use Rattle.format.specs.Answers.{uint32Answer}
+use Rattle.format.specs.Kinds.{tpmsPcrSelection}
 use Rattle.schemes.proofs.list.list_end.Statement.{statement}
 use Rattle.schemes.proofs.list.list_end.Tie as tie
 

@@ -7,7 +7,7 @@ use mathlib.Core.Path.{_≡_, sym, _∙_}
 use Rattle.wire.specs.Reading.{read, walk}
 use Rattle.wire.proofs.Rest.{told}
 use Rattle.wire.proofs.Walks.{walk-on, walk-refused, walk-done}
-use Rattle.kinds.specs.Kinds.{tpmsPcrSelection}
+use Rattle.format.specs.Kinds.{tpmsPcrSelection}
 use Rattle.schemes.specs.Answers.{tpmsPcrSelectionAnswer}
 use Rattle.schemes.proofs.list.walk_items.Statement.{statement}
 use Rattle.schemes.proofs.list.walk_items.Tie as tie

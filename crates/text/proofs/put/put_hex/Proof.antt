@@ -3,7 +3,7 @@ use borrow.Author.Needs.{needs}
 use Prim.Native.Nat.{_-_}
 use native.Mathlib.Omega.{arith}
 use mathlib.Core.Path.{refl}
-use Rattle.plans.proofs.Putting.{puts-length}
+use Rattle.text.proofs.Putting.{puts-length}
 use Rattle.text.proofs.Hexes.{Paired, paired-none, paired-more, paired-all, hex-none}
 use Rattle.text.proofs.put.put_hex.Statement.{statement}
 use Rattle.text.proofs.put.put_hex.Tie as tie

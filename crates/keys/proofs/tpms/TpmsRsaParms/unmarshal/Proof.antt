@@ -1,33 +1,18 @@
 -- Field by field, what is left to read is the rest of the layout. Assumes nothing.
 use borrow.Author.Needs.{needs}
-use Rattle.wire.proofs.Rest.{told, begin, done, fails-number, fails-then, past-number, past-then}
-use Rattle.kinds.specs.Kinds.{tpmtSymDef, tpmtAsymScheme, tpmsRsaParms}
-use Rattle.kinds.specs.Answers.{uint16Answer, uint32Answer}
+use Rattle.wire.proofs.Search.{finds, refuses, by-number, by-then, by-whole, rests}
+use Rattle.format.specs.Kinds.{tpmsRsaParms}
+use Rattle.format.specs.Answers.{uint16Answer, uint32Answer}
 use Rattle.schemes.specs.Answers.{tpmtSymDefAnswer, tpmtRsaSchemeAnswer}
 use Rattle.keys.proofs.tpms.TpmsRsaParms.unmarshal.Statement.{statement}
 use Rattle.keys.proofs.tpms.TpmsRsaParms.unmarshal.Tie as tie
 
-returns : tie.Need-returns
-unfolding tpmsRsaParms
-returns c = fails-then tpmtSymDef _ (begin _ _ _) (told tpmtSymDefAnswer (c .before .f .given .1) (c .before .before .before .unmarshal .ensures))
-
-returns-2 : tie.Need-returns-2
-unfolding tpmsRsaParms
-returns-2 c = fails-then tpmtAsymScheme _ (past-then tpmtSymDef (begin _ _ _) (told tpmtSymDefAnswer (c .before .before .before .before .before .v .given .1) (c .before .before .before .before .before .before .before .unmarshal .ensures))) (told tpmtRsaSchemeAnswer (c .before .f2 .given .1) (c .before .before .before .unmarshal2 .ensures))
-
-returns-3 : tie.Need-returns-3
-unfolding tpmsRsaParms
-returns-3 c = fails-number (past-then tpmtAsymScheme (past-then tpmtSymDef (begin _ _ _) (told tpmtSymDefAnswer (c .before .before .before .before .before .before .before .before .before .v .given .1) (c .before .before .before .before .before .before .before .before .before .before .before .unmarshal .ensures))) (told tpmtRsaSchemeAnswer (c .before .before .before .before .before .v2 .given .1) (c .before .before .before .before .before .before .before .unmarshal2 .ensures))) (told uint16Answer (c .before .f3 .given .1) (c .before .before .before .uint16 .ensures))
-
-returns-4 : tie.Need-returns-4
-unfolding tpmsRsaParms
-returns-4 c = fails-number (past-number (past-then tpmtAsymScheme (past-then tpmtSymDef (begin _ _ _) (told tpmtSymDefAnswer (c .before .before .before .before .before .before .before .before .before .before .before .before .before .v .given .1) (c .before .before .before .before .before .before .before .before .before .before .before .before .before .before .before .unmarshal .ensures))) (told tpmtRsaSchemeAnswer (c .before .before .before .before .before .before .before .before .before .v2 .given .1) (c .before .before .before .before .before .before .before .before .before .before .before .unmarshal2 .ensures))) (told uint16Answer (c .before .before .before .before .before .v3 .given .1) (c .before .before .before .before .before .before .before .uint16 .ensures))) (told uint32Answer (c .before .f4 .given .1) (c .before .before .before .uint32 .ensures))
-
-returns-5 : tie.Need-returns-5
-unfolding tpmsRsaParms
-returns-5 c = done (past-number (past-number (past-then tpmtAsymScheme (past-then tpmtSymDef (begin _ _ _) (told tpmtSymDefAnswer (c .before .before .before .before .before .before .before .before .before .before .before .before .before .v .given .1) (c .before .before .before .before .before .before .before .before .before .before .before .before .before .before .before .unmarshal .ensures))) (told tpmtRsaSchemeAnswer (c .before .before .before .before .before .before .before .before .before .v2 .given .1) (c .before .before .before .before .before .before .before .before .before .before .before .unmarshal2 .ensures))) (told uint16Answer (c .before .before .before .before .before .v3 .given .1) (c .before .before .before .before .before .before .before .uint16 .ensures))) (told uint32Answer (c .before .v4 .given .1) (c .before .before .before .uint32 .ensures)))
-
 pub unmarshal-spec : {M : Type 1} → statement M
+unfolding tpmsRsaParms
 unmarshal-spec = tie.close (tie.spec
-    (search needs) (search needs) (search needs) returns (search needs) (search needs) (search needs) returns-2 (search needs)
-    (search needs) (search needs) returns-3 (search needs) (search needs) (search needs) returns-4 returns-5)
+    (search needs) (search needs) (search needs) (λ c. refuses (search (by-then tpmtSymDefAnswer, rests))) (search needs) (search needs)
+    (search needs) (λ c. refuses (search (by-then tpmtSymDefAnswer, by-then tpmtRsaSchemeAnswer, rests))) (search needs) (search needs)
+    (search needs) (λ c. refuses (search (by-then tpmtSymDefAnswer, by-then tpmtRsaSchemeAnswer, by-number uint16Answer, rests) depth 6))
+    (search needs) (search needs) (search needs)
+    (λ c. refuses (search (by-then tpmtSymDefAnswer, by-then tpmtRsaSchemeAnswer, by-number uint16Answer, by-whole uint32Answer, rests) depth 8))
+    (λ c. finds (search (by-then tpmtSymDefAnswer, by-then tpmtRsaSchemeAnswer, by-number uint16Answer, by-whole uint32Answer, rests) depth 8)))

@@ -1,29 +1,16 @@
 -- Field by field, what is left to read is the rest of the layout. Assumes nothing.
 use borrow.Author.Needs.{needs}
-use Rattle.wire.proofs.Rest.{told, begin, done, fails-buffer, fails-number, past-buffer, past-number}
-use Rattle.kinds.specs.Kinds.{tpmsSignatureEcc}
-use Rattle.kinds.specs.Answers.{tpmAlgIdAnswer}
+use Rattle.wire.proofs.Search.{finds, refuses, by-number, by-buffer, by-whole, rests}
+use Rattle.format.specs.Kinds.{tpmsSignatureEcc}
 use Rattle.wire.specs.Answers.{spanAnswer}
+use Rattle.format.specs.Answers.{tpmAlgIdAnswer}
 use Rattle.keys.proofs.tpms.TpmsSignatureEcc.unmarshal.Statement.{statement}
 use Rattle.keys.proofs.tpms.TpmsSignatureEcc.unmarshal.Tie as tie
 
-returns : tie.Need-returns
-unfolding tpmsSignatureEcc
-returns c = fails-number (begin _ _ _) (told tpmAlgIdAnswer (c .before .f .given .1) (c .before .before .before .unmarshal .ensures))
-
-returns-2 : tie.Need-returns-2
-unfolding tpmsSignatureEcc
-returns-2 c = fails-buffer (past-number (begin _ _ _) (told tpmAlgIdAnswer (c .before .before .before .before .before .v .given .1) (c .before .before .before .before .before .before .before .unmarshal .ensures))) (told spanAnswer (c .before .f2 .given .1) (c .before .before .before .buffer .ensures))
-
-returns-3 : tie.Need-returns-3
-unfolding tpmsSignatureEcc
-returns-3 c = fails-buffer (past-buffer (past-number (begin _ _ _) (told tpmAlgIdAnswer (c .before .before .before .before .before .before .before .before .before .v .given .1) (c .before .before .before .before .before .before .before .before .before .before .before .unmarshal .ensures))) (told spanAnswer (c .before .before .before .before .before .v2 .given .1) (c .before .before .before .before .before .before .before .buffer .ensures))) (told spanAnswer (c .before .f3 .given .1) (c .before .before .before .buffer2 .ensures))
-
-returns-4 : tie.Need-returns-4
-unfolding tpmsSignatureEcc
-returns-4 c = done (past-buffer (past-buffer (past-number (begin _ _ _) (told tpmAlgIdAnswer (c .before .before .before .before .before .before .before .before .before .v .given .1) (c .before .before .before .before .before .before .before .before .before .before .before .unmarshal .ensures))) (told spanAnswer (c .before .before .before .before .before .v2 .given .1) (c .before .before .before .before .before .before .before .buffer .ensures))) (told spanAnswer (c .before .v3 .given .1) (c .before .before .before .buffer2 .ensures)))
-
 pub unmarshal-spec : {M : Type 1} → statement M
+unfolding tpmsSignatureEcc
 unmarshal-spec = tie.close (tie.spec
-    (search needs) (search needs) (search needs) returns (search needs) (search needs) (search needs) returns-2 (search needs)
-    (search needs) (search needs) returns-3 returns-4)
+    (search needs) (search needs) (search needs) (λ c. refuses (search (by-number tpmAlgIdAnswer, rests))) (search needs) (search needs)
+    (search needs) (λ c. refuses (search (by-number tpmAlgIdAnswer, by-buffer spanAnswer, rests))) (search needs) (search needs)
+    (search needs) (λ c. refuses (search (by-number tpmAlgIdAnswer, by-buffer spanAnswer, by-whole spanAnswer, rests) depth 6))
+    (λ c. finds (search (by-number tpmAlgIdAnswer, by-buffer spanAnswer, by-whole spanAnswer, rests) depth 6)))

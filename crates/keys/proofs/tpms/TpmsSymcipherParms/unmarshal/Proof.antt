@@ -1,15 +1,10 @@
 -- Field by field, what is left to read is the rest of the layout. Assumes nothing.
 use borrow.Author.Needs.{needs}
-use Rattle.wire.proofs.Rest.{told, begin, fails, last}
+use Rattle.wire.proofs.Search.{known}
 use Rattle.schemes.specs.Answers.{tpmtSymDefAnswer}
 use Rattle.keys.proofs.tpms.TpmsSymcipherParms.unmarshal.Statement.{statement}
 use Rattle.keys.proofs.tpms.TpmsSymcipherParms.unmarshal.Tie as tie
 
-returns : tie.Need-returns
-returns c = fails (begin _ _ _) (told tpmtSymDefAnswer (c .before .f .given .1) (c .before .before .before .unmarshal .ensures))
-
-returns-2 : tie.Need-returns-2
-returns-2 c = last (begin _ _ _) (told tpmtSymDefAnswer (c .before .v .given .1) (c .before .before .before .unmarshal .ensures))
-
 pub unmarshal-spec : {M : Type 1} → statement M
-unmarshal-spec = tie.close (tie.spec (search needs) (search needs) (search needs) returns returns-2)
+unmarshal-spec = tie.close (tie.spec
+    (search needs) (search needs) (search needs) (λ c. search (known tpmtSymDefAnswer)) (λ c. search (known tpmtSymDefAnswer)))

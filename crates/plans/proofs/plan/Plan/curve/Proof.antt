@@ -2,7 +2,7 @@
 use borrow.Author.Needs.{needs}
 use mathlib.Core.Path.{refl}
 use Rattle.wire.specs.declared.width.Width.{Width}
-use Rattle.kinds.specs.Codes.{curve}
+use Rattle.format.specs.Codes.{curve}
 use Rattle.plans.proofs.Numbers.{numbered}
 use Rattle.plans.proofs.plan.Plan.curve.Statement.{statement}
 use Rattle.plans.proofs.plan.Plan.curve.Tie as tie

@@ -1,7 +1,7 @@
 -- The field's part where there is one, and else an empty part. Assumes nothing.
 use borrow.Author.Needs.{needs}
 use mathlib.Core.Path.{ap, _∙_}
-use Rattle.wire.specs.Writing.{partOf}
+use Rattle.wire.specs.Fields.{partOf}
 use Rattle.wire.proofs.Rest.{told}
 use Rattle.plans.specs.Walked.{placeAnswer}
 use Rattle.plans.proofs.plan.Plan.field.Statement.{statement}

@@ -1,7 +1,7 @@
 -- The field's length where there is one, and else why not. Assumes nothing.
 use borrow.Author.Needs.{needs}
 use mathlib.Core.Path.{ap, _∙_}
-use Rattle.wire.specs.Writing.{sizeOf}
+use Rattle.wire.specs.Fields.{sizeOf}
 use Rattle.wire.specs.Reading.{refused}
 use Rattle.wire.proofs.Rest.{told}
 use Rattle.plans.specs.Walked.{placeAnswer}

@@ -5,7 +5,7 @@ use native.Mathlib.Omega.{arith}
 use mathlib.Core.Path.{_≡_, refl, ap, _∙_}
 use mathlib.Core.Logic.{⊎-elim}
 use mathlib.Core.List.{List}
-use Rattle.wire.specs.Writing.{pickField, fieldOf}
+use Rattle.wire.specs.Fields.{pickField, fieldOf}
 use Rattle.plans.specs.Steps.{steps, spansOf}
 use Rattle.plans.proofs.Loops.{from}
 use Rattle.plans.proofs.Finding.{find-at, find-past, find-skip, find-none}

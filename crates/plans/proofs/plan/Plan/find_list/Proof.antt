@@ -4,7 +4,7 @@ use Prim.Native.Nat.{ℕ, _-_, _≤_}
 use native.Mathlib.Omega.{arith}
 use mathlib.Core.Path.{_≡_, refl, _∙_}
 use mathlib.Core.List.{List}
-use Rattle.wire.specs.Writing.{pickField}
+use Rattle.wire.specs.Fields.{pickField}
 use Rattle.plans.specs.Steps.{steps, listsOf}
 use Rattle.plans.proofs.Loops.{from}
 use Rattle.plans.proofs.Items.{list-at, list-skip, list-none}

@@ -1,7 +1,7 @@
 -- The item's length where there is one, and else why not. Assumes nothing.
 use borrow.Author.Needs.{needs}
 use mathlib.Core.Path.{ap, _∙_}
-use Rattle.wire.specs.Writing.{sizeOf}
+use Rattle.wire.specs.Fields.{sizeOf}
 use Rattle.wire.proofs.Rest.{told}
 use Rattle.plans.specs.Walked.{itemAnswer}
 use Rattle.plans.proofs.plan.Plan.item_size.Statement.{statement}

@@ -3,7 +3,7 @@ use borrow.Author.Needs.{needs}
 use mathlib.Core.Path.{refl, ap}
 use lib.Dec.{eqb}
 use Rattle.wire.specs.declared.width.Width.{Width}
-use Rattle.kinds.specs.Codes.{magic}
+use Rattle.format.specs.Codes.{magic}
 use Rattle.plans.proofs.Numbers.{numbered}
 use Rattle.plans.proofs.plan.Plan.magic.Statement.{statement}
 use Rattle.plans.proofs.plan.Plan.magic.Tie as tie

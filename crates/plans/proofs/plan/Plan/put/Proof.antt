@@ -1,7 +1,7 @@
 -- What was put and what is left are the whole record, from the first step to the last. Assumes nothing.
 use Prim.Native.Nat.{_-_, _≤_}
 use native.Mathlib.Omega.{arith}
-use Rattle.wire.specs.Writing.{partOf}
+use Rattle.wire.specs.Fields.{partOf}
 use Rattle.plans.specs.Steps.{steps, spell}
 use Rattle.plans.proofs.Loops.{from}
 use Rattle.plans.proofs.Putting.{Putting, putting-none, putting-length, putting-room, putting-more, putting-from, putting-end}

@@ -3,7 +3,7 @@ use borrow.Author.Needs.{needs}
 use mathlib.Core.Path.{refl, ap, _∙_}
 use lib.Dec.{leb}
 use Rattle.wire.specs.declared.width.Width.{Width}
-use Rattle.kinds.specs.Codes.{yesNo}
+use Rattle.format.specs.Codes.{yesNo}
 use Rattle.plans.proofs.Numbers.{numbered, yes-or-no}
 use Rattle.plans.proofs.plan.Plan.yes_no.Statement.{statement}
 use Rattle.plans.proofs.plan.Plan.yes_no.Tie as tie

@@ -1,7 +1,8 @@
 -- Each step's bytes at their place; a buffer's behind its length. Assumes nothing.
 use borrow.Author.Needs.{needs}
 use native.Mathlib.Omega.{arith}
-use Rattle.plans.proofs.Putting.{puts-then, puts-none, number-room, plain-room, list-room, buffer-room, behind-length}
+use Rattle.plans.proofs.Putting.{number-room, plain-room, list-room, buffer-room, behind-length}
+use Rattle.text.proofs.Putting.{puts-then, puts-none}
 use Rattle.plans.proofs.step.Step.put.Statement.{statement}
 use Rattle.plans.proofs.step.Step.put.Tie as tie
 

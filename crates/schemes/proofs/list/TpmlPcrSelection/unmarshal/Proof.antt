@@ -8,7 +8,7 @@ use Rattle.wire.proofs.Stand.{bytes-of}
 use Rattle.wire.proofs.Sound.{list-sound, read-sound}
 use Rattle.wire.proofs.Rest.{told}
 use Rattle.wire.proofs.Leaves.{read-stop, list-found, list-refused}
-use Rattle.kinds.specs.Kinds.{tpmsPcrSelection, tpmlPcrSelection}
+use Rattle.format.specs.Kinds.{tpmsPcrSelection, tpmlPcrSelection}
 use Rattle.schemes.proofs.list.TpmlPcrSelection.unmarshal.Statement.{statement}
 use Rattle.schemes.proofs.list.TpmlPcrSelection.unmarshal.Tie as tie
 

@@ -1,24 +1,15 @@
 -- Field by field, what is left to read is the rest of the layout. Assumes nothing.
 use borrow.Author.Needs.{needs}
-use Rattle.wire.proofs.Rest.{told, begin, done, fails-buffer, fails-number, past-buffer, past-number}
-use Rattle.kinds.specs.Kinds.{tpmsPcrSelection}
-use Rattle.kinds.specs.Answers.{tpmAlgIdAnswer}
+use Rattle.wire.proofs.Search.{finds, refuses, by-number, by-whole, rests}
+use Rattle.format.specs.Kinds.{tpmsPcrSelection}
 use Rattle.wire.specs.Answers.{spanAnswer}
+use Rattle.format.specs.Answers.{tpmAlgIdAnswer}
 use Rattle.schemes.proofs.tpms.TpmsPcrSelection.unmarshal.Statement.{statement}
 use Rattle.schemes.proofs.tpms.TpmsPcrSelection.unmarshal.Tie as tie
 
-returns : tie.Need-returns
-unfolding tpmsPcrSelection
-returns c = fails-number (begin _ _ _) (told tpmAlgIdAnswer (c .before .f .given .1) (c .before .before .before .unmarshal .ensures))
-
-returns-2 : tie.Need-returns-2
-unfolding tpmsPcrSelection
-returns-2 c = fails-buffer (past-number (begin _ _ _) (told tpmAlgIdAnswer (c .before .before .before .before .before .v .given .1) (c .before .before .before .before .before .before .before .unmarshal .ensures))) (told spanAnswer (c .before .f2 .given .1) (c .before .before .before .buffer .ensures))
-
-returns-3 : tie.Need-returns-3
-unfolding tpmsPcrSelection
-returns-3 c = done (past-buffer (past-number (begin _ _ _) (told tpmAlgIdAnswer (c .before .before .before .before .before .v .given .1) (c .before .before .before .before .before .before .before .unmarshal .ensures))) (told spanAnswer (c .before .v2 .given .1) (c .before .before .before .buffer .ensures)))
-
 pub unmarshal-spec : {M : Type 1} → statement M
+unfolding tpmsPcrSelection
 unmarshal-spec = tie.close (tie.spec
-    (search needs) (search needs) (search needs) returns (search needs) (search needs) (search needs) returns-2 returns-3)
+    (search needs) (search needs) (search needs) (λ c. refuses (search (by-number tpmAlgIdAnswer, rests))) (search needs) (search needs)
+    (search needs) (λ c. refuses (search (by-number tpmAlgIdAnswer, by-whole spanAnswer, rests)))
+    (λ c. finds (search (by-number tpmAlgIdAnswer, by-whole spanAnswer, rests))))

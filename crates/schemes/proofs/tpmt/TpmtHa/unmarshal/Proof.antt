@@ -1,24 +1,15 @@
 -- Field by field, what is left to read is the rest of the layout. Assumes nothing.
 use borrow.Author.Needs.{needs}
-use Rattle.wire.proofs.Rest.{told, begin, fails, fails-number, last, past-number}
-use Rattle.kinds.specs.Kinds.{tpmtHa}
-use Rattle.kinds.specs.Answers.{tpmAlgIdAnswer}
+use Rattle.wire.proofs.Search.{finds, refuses, by-number, by-whole, rests}
+use Rattle.format.specs.Kinds.{tpmtHa}
+use Rattle.format.specs.Answers.{tpmAlgIdAnswer}
 use Rattle.schemes.specs.Answers.{tpmuHaAnswer}
 use Rattle.schemes.proofs.tpmt.TpmtHa.unmarshal.Statement.{statement}
 use Rattle.schemes.proofs.tpmt.TpmtHa.unmarshal.Tie as tie
 
-returns : tie.Need-returns
-unfolding tpmtHa
-returns c = fails-number (begin _ _ _) (told tpmAlgIdAnswer (c .before .f .given .1) (c .before .before .before .unmarshal .ensures))
-
-returns-2 : tie.Need-returns-2
-unfolding tpmtHa
-returns-2 c = fails (past-number (begin _ _ _) (told tpmAlgIdAnswer (c .before .before .before .before .before .v .given .1) (c .before .before .before .before .before .before .before .unmarshal .ensures))) (told tpmuHaAnswer (c .before .f2 .given .1) (c .before .before .before .unmarshal-tagged .ensures))
-
-returns-3 : tie.Need-returns-3
-unfolding tpmtHa
-returns-3 c = last (past-number (begin _ _ _) (told tpmAlgIdAnswer (c .before .before .before .before .before .v .given .1) (c .before .before .before .before .before .before .before .unmarshal .ensures))) (told tpmuHaAnswer (c .before .v2 .given .1) (c .before .before .before .unmarshal-tagged .ensures))
-
 pub unmarshal-spec : {M : Type 1} → statement M
+unfolding tpmtHa
 unmarshal-spec = tie.close (tie.spec
-    (search needs) (search needs) (search needs) returns (search needs) (search needs) (search needs) returns-2 returns-3)
+    (search needs) (search needs) (search needs) (λ c. refuses (search (by-number tpmAlgIdAnswer, rests))) (search needs) (search needs)
+    (search needs) (λ c. refuses (search (by-number tpmAlgIdAnswer, by-whole tpmuHaAnswer, rests)))
+    (λ c. finds (search (by-number tpmAlgIdAnswer, by-whole tpmuHaAnswer, rests))))

@@ -1,59 +1,23 @@
 -- The selector's code chooses the arm that the table has for it, or none. Assumes nothing.
 use borrow.Author.Needs.{needs}
-use mathlib.Core.Path.{refl, sym, ap}
-use mathlib.Core.List.{[], _∷_}
-use Rattle.wire.proofs.Rest.{told, arm-found, arm-refused, arm-missing}
-use Rattle.kinds.proofs.Choices.{none-unmatched}
-use Rattle.wire.proofs.Leaves.{read-stop}
-use Rattle.kinds.specs.Codes.{aes, sm4, camellia, xor, null}
-use Rattle.kinds.specs.Tables.{cipherRows, cipherArm}
-use Rattle.kinds.specs.Kinds.{tpmuSymModeBody, tpmuSymMode}
-use Rattle.kinds.specs.Answers.{tpmAlgIdAnswer}
+use Rattle.wire.proofs.Search.{finds, refuses, by-whole, in-arm, no-arm, rests}
+use Rattle.format.specs.Kinds.{tpmuSymModeTable, tpmuSymModeArm, tpmuSymModeBody, tpmuSymMode}
+use Rattle.format.proofs.Choices.{none-chosen}
+use Rattle.format.specs.Answers.{tpmAlgIdAnswer}
 use Rattle.schemes.proofs.tpmu.TpmuSymMode.unmarshal_tagged.Statement.{statement}
 use Rattle.schemes.proofs.tpmu.TpmuSymMode.unmarshal_tagged.Tie as tie
 
-returns : tie.Need-returns
-unfolding tpmuSymMode cipherArm
-returns c = arm-found tpmuSymModeBody _ _ _ (sym (ap cipherArm (c .before .before .before .before .match .keys1))) (told tpmAlgIdAnswer (c .before .x .given .1) (c .before .before .before .unmarshal .ensures))
-
-returns-2 : tie.Need-returns-2
-unfolding tpmuSymMode cipherArm
-returns-2 c = arm-refused tpmuSymModeBody _ _ _ (sym (ap cipherArm (c .before .before .before .before .match .keys1))) (told tpmAlgIdAnswer (c .before .f .given .1) (c .before .before .before .unmarshal .ensures))
-
-returns-3 : tie.Need-returns-3
-unfolding tpmuSymMode cipherArm
-returns-3 c = arm-found tpmuSymModeBody _ _ _ (sym (ap cipherArm (c .before .before .before .before .match .keys2))) (told tpmAlgIdAnswer (c .before .x2 .given .1) (c .before .before .before .unmarshal2 .ensures))
-
-returns-4 : tie.Need-returns-4
-unfolding tpmuSymMode cipherArm
-returns-4 c = arm-refused tpmuSymModeBody _ _ _ (sym (ap cipherArm (c .before .before .before .before .match .keys2))) (told tpmAlgIdAnswer (c .before .f2 .given .1) (c .before .before .before .unmarshal2 .ensures))
-
-returns-5 : tie.Need-returns-5
-unfolding tpmuSymMode cipherArm
-returns-5 c = arm-found tpmuSymModeBody _ _ _ (sym (ap cipherArm (c .before .before .before .before .match .keys3))) (told tpmAlgIdAnswer (c .before .x3 .given .1) (c .before .before .before .unmarshal3 .ensures))
-
-returns-6 : tie.Need-returns-6
-unfolding tpmuSymMode cipherArm
-returns-6 c = arm-refused tpmuSymModeBody _ _ _ (sym (ap cipherArm (c .before .before .before .before .match .keys3))) (told tpmAlgIdAnswer (c .before .f3 .given .1) (c .before .before .before .unmarshal3 .ensures))
-
-returns-7 : tie.Need-returns-7
-unfolding tpmuSymMode cipherArm
-returns-7 c = arm-found tpmuSymModeBody _ _ _ (sym (ap cipherArm (c .before .before .before .before .match .keys4))) (told tpmAlgIdAnswer (c .before .x4 .given .1) (c .before .before .before .unmarshal4 .ensures))
-
-returns-8 : tie.Need-returns-8
-unfolding tpmuSymMode cipherArm
-returns-8 c = arm-refused tpmuSymModeBody _ _ _ (sym (ap cipherArm (c .before .before .before .before .match .keys4))) (told tpmAlgIdAnswer (c .before .f4 .given .1) (c .before .before .before .unmarshal4 .ensures))
-
-returns-9 : tie.Need-returns-9
-unfolding tpmuSymMode cipherArm
-returns-9 c = arm-found tpmuSymModeBody _ _ _ (sym (ap cipherArm (c .match .keys5))) (sym (read-stop _ _))
-
-returns-10 : tie.Need-returns-10
-unfolding tpmuSymMode cipherArm
-returns-10 c = rw (c .no-arm .ensures, c .before .wide .ensures) (arm-missing tpmuSymModeBody _ _ _ (none-unmatched cipherRows ((null ∷ []) ∷ (xor ∷ []) ∷ (camellia ∷ []) ∷ (sm4 ∷ []) ∷ (aes ∷ []) ∷ []) refl _ (c .before .before .match .rest)))
-
 pub unmarshal-tagged-spec : {M : Type 1} → statement M
+unfolding tpmuSymMode tpmuSymModeArm
 unmarshal-tagged-spec = tie.close (tie.spec
     (search needs) (search needs) (search needs) (search needs) (search needs) (search needs) (search needs) (search needs) (search needs)
-    (search needs) (search needs) (search needs) (search needs) (search needs) returns returns-2 returns-3 returns-4 returns-5 returns-6
-    returns-7 returns-8 returns-9 returns-10)
+    (search needs) (search needs) (search needs) (search needs) (search needs)
+    (λ c. finds (search (in-arm tpmuSymMode, by-whole tpmAlgIdAnswer, rests)))
+    (λ c. refuses (search (in-arm tpmuSymMode, by-whole tpmAlgIdAnswer, rests)))
+    (λ c. finds (search (in-arm tpmuSymMode, by-whole tpmAlgIdAnswer, rests)))
+    (λ c. refuses (search (in-arm tpmuSymMode, by-whole tpmAlgIdAnswer, rests)))
+    (λ c. finds (search (in-arm tpmuSymMode, by-whole tpmAlgIdAnswer, rests)))
+    (λ c. refuses (search (in-arm tpmuSymMode, by-whole tpmAlgIdAnswer, rests)))
+    (λ c. finds (search (in-arm tpmuSymMode, by-whole tpmAlgIdAnswer, rests)))
+    (λ c. refuses (search (in-arm tpmuSymMode, by-whole tpmAlgIdAnswer, rests))) (λ c. finds (search (in-arm tpmuSymMode, rests)))
+    (λ c. search (no-arm tpmuSymModeArm tpmuSymModeBody, none-chosen tpmuSymModeTable) depth 10))

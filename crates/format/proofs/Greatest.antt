@@ -1,0 +1,348 @@
+-- The greatest record of each kind: no record is larger, and one is so large. Assumes nothing.
+use Prim.Native.Nat.{ℕ, _+_, _≤_}
+use native.Mathlib.Omega.{arith}
+use mathlib.Core.Path.{refl}
+use mathlib.Core.Bool.{Bool, true, false, cond}
+use mathlib.Core.List.{List, [], _∷_}
+use lib.Dec.{eqb}
+use Rattle.wire.specs.declared.choice.Choice.{Choice}
+use Rattle.wire.specs.declared.choice.Choice.the-variants.{Nothing, The}
+use Rattle.wire.specs.Layout.{Rule, Layout, stop, number, plain, one, free}
+use Rattle.wire.specs.Sizes.{AtMost, Reaches, Greatest}
+use Rattle.wire.specs.Unions.{Row, bodyOf, union}
+use Rattle.wire.proofs.Sizes.{stop-most, no-arm-most, arm-most, number-most, plain-most, buffer-most, then-most, most-wider, stop-reaches, arm-reaches, number-reaches, plain-reaches, buffer-reaches, then-reaches}
+use Rattle.format.specs.declared.list.ListOf.the-variants.{PcrSelection}
+use Rattle.format.specs.Codes.{algorithms, attestations, isAlgorithm, isAttestation, alg, curve, attestation, yesNo, magic}
+use Rattle.format.specs.Kinds.{tpmuHaTable, tpmuAsymSchemeTable, tpmuSigSchemeTable, tpmuKeyedhashSchemeTable, tpmuKdfSchemeTable, tpmuSymKeyBitsTable, tpmuSymModeTable, tpmuPublicParmsTable, tpmuPublicIdTable, tpmuSensitiveCompositeTable, tpmuSignatureTable, tpmuAttestTable, tpmuHaArm, tpmuAsymSchemeArm, tpmuSigSchemeArm, tpmuKeyedhashSchemeArm, tpmuKdfSchemeArm, tpmuSymKeyBitsArm, tpmuSymModeArm, tpmuPublicParmsArm, tpmuPublicIdArm, tpmuSensitiveCompositeArm, tpmuSignatureArm, tpmuAttestArm, tpmsSchemeHash, tpmsSchemeXor, tpmuHa, tpmuAsymScheme, tpmuSigScheme, tpmuKeyedhashScheme, tpmuKdfScheme, tpmuSymKeyBits, tpmuSymMode, tpmuPublicParms, tpmuPublicId, tpmuSensitiveComposite, tpmuSignature, tpmuAttest, tpmtHa, tpmtSymDef, tpmtKdfScheme, tpmtKeyedhashScheme, tpmtSigScheme, tpmtAsymScheme, tpmsRsaParms, tpmsEccParms, tpmsEccPoint, tpmsSignatureRsa, tpmsSignatureEcc, tpmtPublicParms, tpmtSignature, tpmtPublic, tpmtSensitive, tpmlPcrSelection, tpmsClockInfo, tpmsCertifyInfo, tpmsCreationInfo, tpmsQuoteInfo, tpmsCommandAuditInfo, tpmsSessionAuditInfo, tpmsTimeInfo, tpmsTimeAttestInfo, tpmsNvCertifyInfo, tpmsNvDigestCertifyInfo, tpmsAttest, kinds}
+use Rattle.format.proofs.Lists.{list-greatest}
+
+-- ---- unions: every arm that can be chosen is small enough
+
+-- one number
+one-most : (w : ℕ) (r : Rule) → AtMost (one w r) (w + 0)
+one-most w r = number-most w 0 r (λ n a. stop-most)
+
+-- nothing
+none-most : {m : ℕ} → AtMost stop m
+none-most = most-wider (omega arith) stop-most
+
+-- what each row of a table holds is small enough
+abbrev RowsMost : List Row → ℕ → Type 0
+RowsMost [] m = Unit {0}
+RowsMost (r ∷ rs) m = AtMost (r .holds) m × RowsMost rs m
+
+-- a proof for each row, one behind the other
+infixr 20 _&_
+abbrev _&_ : {A B : Type 0} → A → B → A × B
+a & b = (a, b)
+
+cond-most : {m : ℕ} (b : Bool) (k l : Layout) → AtMost k m → AtMost l m → AtMost (cond b k l) m
+cond-most true k l h g = h
+cond-most false k l h g = g
+
+body-most : (m : ℕ) (rs : List Row) → RowsMost rs m → (t : ℕ) → AtMost (bodyOf rs t) m
+body-most m [] h t = no-arm-most t m
+body-most m (r ∷ rs) h t = cond-most (eqb t (r .chooses)) (r .holds) (bodyOf rs t) (h .0) (body-most m rs (h .1) t)
+
+-- so the union is
+union-most : (m : ℕ) (rs : List Row) → RowsMost rs m → (c : Choice) (v : ℕ) → AtMost (union c (λ t. bodyOf rs t) v) m
+union-most m rs h Nothing v = no-arm-most v m
+union-most m rs h (The t) v = arm-most v t (body-most m rs h t)
+
+-- a bound on a number's layout, from a bound on what follows every number
+follows : {k : ℕ → Layout} (w m : ℕ) (r : Rule) → ((n : ℕ) → AtMost (k n) m) → AtMost (number w r k) (w + m)
+follows w m r h = number-most w m r (λ n a. h n)
+
+-- ---- no record of the kind is larger
+
+digest-most : (n : ℕ) → n + 0 ≤ 64 → AtMost (plain n stop) 64
+digest-most n h = most-wider h (plain-most n 0 stop-most)
+
+ha-by-most : (v : ℕ) → AtMost (tpmuHa v) 64
+unfolding tpmuHa
+ha-by-most v = union-most 64 tpmuHaTable rows (tpmuHaArm v) v
+  where
+    rows : RowsMost tpmuHaTable 64
+    rows =
+        digest-most 20 (omega arith) & digest-most 24 (omega arith)
+        & digest-most 32 (omega arith) & digest-most 32 (omega arith) & digest-most 32 (omega arith) & digest-most 32 (omega arith)
+        & digest-most 48 (omega arith) & digest-most 48 (omega arith)
+        & digest-most 64 (omega arith) & digest-most 64 (omega arith) & digest-most 64 (omega arith)
+        & none-most & tt
+
+ha-most : AtMost tpmtHa 66
+unfolding tpmtHa
+ha-most = follows 2 64 alg ha-by-most
+
+-- a code
+hash-most : AtMost tpmsSchemeHash 2
+unfolding tpmsSchemeHash
+hash-most = one-most 2 alg
+
+asym-most : AtMost tpmtAsymScheme 4
+unfolding tpmtAsymScheme tpmuAsymScheme
+asym-most = follows 2 2 alg (λ v. union-most 2 tpmuAsymSchemeTable rows (tpmuAsymSchemeArm v) v)
+  where
+    rows : RowsMost tpmuAsymSchemeTable 2
+    rows = none-most & none-most
+        & hash-most & hash-most & hash-most & hash-most & hash-most & hash-most & hash-most & hash-most & hash-most & tt
+
+sig-most : AtMost tpmtSigScheme 4
+unfolding tpmtSigScheme tpmuSigScheme
+sig-most = follows 2 2 alg (λ v. union-most 2 tpmuSigSchemeTable rows (tpmuSigSchemeArm v) v)
+  where
+    rows : RowsMost tpmuSigSchemeTable 2
+    rows = hash-most & hash-most & hash-most & hash-most & hash-most & hash-most & hash-most & none-most & tt
+
+keyedhash-most : AtMost tpmtKeyedhashScheme 6
+unfolding tpmtKeyedhashScheme tpmuKeyedhashScheme tpmsSchemeXor
+keyedhash-most = follows 2 4 alg (λ v. union-most 4 tpmuKeyedhashSchemeTable rows (tpmuKeyedhashSchemeArm v) v)
+  where
+    rows : RowsMost tpmuKeyedhashSchemeTable 4
+    rows = most-wider (omega arith) hash-most & follows 2 2 alg (λ n. one-most 2 alg) & none-most & tt
+
+kdf-most : AtMost tpmtKdfScheme 4
+unfolding tpmtKdfScheme tpmuKdfScheme
+kdf-most = follows 2 2 alg (λ v. union-most 2 tpmuKdfSchemeTable rows (tpmuKdfSchemeArm v) v)
+  where
+    rows : RowsMost tpmuKdfSchemeTable 2
+    rows = hash-most & hash-most & hash-most & hash-most & none-most & tt
+
+key-bits-most : (v : ℕ) → AtMost (tpmuSymKeyBits v) 2
+unfolding tpmuSymKeyBits
+key-bits-most v = union-most 2 tpmuSymKeyBitsTable (one-most 2 free & one-most 2 free & one-most 2 free & one-most 2 alg & none-most & tt) (tpmuSymKeyBitsArm v) v
+
+mode-most : (v : ℕ) → AtMost (tpmuSymMode v) 2
+unfolding tpmuSymMode
+mode-most v = union-most 2 tpmuSymModeTable (one-most 2 alg & one-most 2 alg & one-most 2 alg & one-most 2 alg & none-most & tt) (tpmuSymModeArm v) v
+
+sym-def-most : AtMost tpmtSymDef 6
+unfolding tpmtSymDef
+sym-def-most = follows 2 4 alg (λ v. then-most _ _ 2 2 (key-bits-most v) (mode-most v))
+
+rsa-parms-most : AtMost tpmsRsaParms 16
+unfolding tpmsRsaParms
+rsa-parms-most = then-most _ _ 6 10 sym-def-most (then-most _ _ 4 6 asym-most (follows 2 4 free (λ n. one-most 4 free)))
+
+ecc-parms-most : AtMost tpmsEccParms 16
+unfolding tpmsEccParms
+ecc-parms-most = then-most _ _ 6 10 sym-def-most (then-most _ _ 4 6 asym-most (follows 2 4 curve (λ n. kdf-most)))
+
+parms-by-most : (v : ℕ) → AtMost (tpmuPublicParms v) 16
+unfolding tpmuPublicParms
+parms-by-most v = union-most 16 tpmuPublicParmsTable rows (tpmuPublicParmsArm v) v
+  where
+    rows : RowsMost tpmuPublicParmsTable 16
+    rows = most-wider (omega arith) keyedhash-most & most-wider (omega arith) sym-def-most & rsa-parms-most & ecc-parms-most & none-most & tt
+
+unique-by-most : (v : ℕ) → AtMost (tpmuPublicId v) 514
+unfolding tpmuPublicId tpmsEccPoint
+unique-by-most v = union-most 514 tpmuPublicIdTable rows (tpmuPublicIdArm v) v
+  where
+    rows : RowsMost tpmuPublicIdTable 514
+    rows =
+        most-wider (omega arith) (buffer-most 2 64 0 stop-most)
+        & most-wider (omega arith) (buffer-most 2 32 0 stop-most)
+        & buffer-most 2 512 0 stop-most
+        & most-wider (omega arith) (buffer-most 2 66 68 (buffer-most 2 66 0 stop-most))
+        & none-most & tt
+
+sensitive-by-most : (v : ℕ) → AtMost (tpmuSensitiveComposite v) 258
+unfolding tpmuSensitiveComposite
+sensitive-by-most v = union-most 258 tpmuSensitiveCompositeTable rows (tpmuSensitiveCompositeArm v) v
+  where
+    rows : RowsMost tpmuSensitiveCompositeTable 258
+    rows =
+        buffer-most 2 256 0 stop-most
+        & most-wider (omega arith) (buffer-most 2 66 0 stop-most)
+        & buffer-most 2 256 0 stop-most
+        & most-wider (omega arith) (buffer-most 2 32 0 stop-most)
+        & tt
+
+signature-rsa-most : AtMost tpmsSignatureRsa 516
+unfolding tpmsSignatureRsa
+signature-rsa-most = follows 2 514 alg (λ n. buffer-most 2 512 0 stop-most)
+
+signature-ecc-most : AtMost tpmsSignatureEcc 516
+unfolding tpmsSignatureEcc
+signature-ecc-most = most-wider (omega arith) (follows 2 136 alg (λ n. buffer-most 2 66 68 (buffer-most 2 66 0 stop-most)))
+
+signature-by-most : (v : ℕ) → AtMost (tpmuSignature v) 516
+unfolding tpmuSignature
+signature-by-most v = union-most 516 tpmuSignatureTable rows (tpmuSignatureArm v) v
+  where
+    rows : RowsMost tpmuSignatureTable 516
+    rows =
+        signature-rsa-most & signature-rsa-most
+        & signature-ecc-most & signature-ecc-most & signature-ecc-most & signature-ecc-most
+        & most-wider (omega arith) ha-most
+        & none-most & tt
+
+public-parms-most : AtMost tpmtPublicParms 18
+unfolding tpmtPublicParms
+public-parms-most = follows 2 16 alg parms-by-most
+
+signature-most : AtMost tpmtSignature 518
+unfolding tpmtSignature
+signature-most = follows 2 516 alg signature-by-most
+
+public-area-most : AtMost tpmtPublic 604
+unfolding tpmtPublic
+public-area-most =
+    follows 2 602 alg (λ type. follows 2 600 alg (λ n. follows 4 596 free (λ n. buffer-most 2 64 530 (then-most _ _ 16 514 (parms-by-most type) (unique-by-most type)))))
+
+sensitive-most : AtMost tpmtSensitive 392
+unfolding tpmtSensitive
+sensitive-most = follows 2 390 alg (λ type. buffer-most 2 64 324 (buffer-most 2 64 258 (sensitive-by-most type)))
+
+pcr-most : AtMost tpmlPcrSelection 116
+unfolding tpmlPcrSelection
+pcr-most = list-greatest PcrSelection .most
+
+clock-most : AtMost tpmsClockInfo 17
+unfolding tpmsClockInfo
+clock-most = follows 8 9 free (λ n. follows 4 5 free (λ n. follows 4 1 free (λ n. one-most 1 yesNo)))
+
+attest-by-most : (v : ℕ) → AtMost (tpmuAttest v) 2120
+unfolding tpmuAttest tpmsCertifyInfo tpmsCreationInfo tpmsQuoteInfo tpmsCommandAuditInfo tpmsSessionAuditInfo tpmsTimeInfo tpmsTimeAttestInfo tpmsNvCertifyInfo tpmsNvDigestCertifyInfo
+attest-by-most v = union-most 2120 tpmuAttestTable rows (tpmuAttestArm v) v
+  where
+    rows : RowsMost tpmuAttestTable 2120
+    rows =
+        most-wider (omega arith) (buffer-most 2 66 68 (buffer-most 2 66 0 stop-most))
+        & most-wider (omega arith) (buffer-most 2 66 66 (buffer-most 2 64 0 stop-most))
+        & most-wider (omega arith) (then-most _ _ 116 66 pcr-most (buffer-most 2 64 0 stop-most))
+        & most-wider (omega arith) (follows 8 134 free (λ n. follows 2 132 alg (λ n. buffer-most 2 64 66 (buffer-most 2 64 0 stop-most))))
+        & most-wider (omega arith) (follows 1 66 yesNo (λ n. buffer-most 2 64 0 stop-most))
+        & most-wider (omega arith) (then-most _ _ 25 8 (follows 8 17 free (λ n. clock-most)) (one-most 8 free))
+        & buffer-most 2 66 2052 (follows 2 2050 free (λ n. buffer-most 2 2048 0 stop-most))
+        & most-wider (omega arith) (buffer-most 2 66 66 (buffer-most 2 64 0 stop-most))
+        & tt
+
+attest-most : AtMost tpmsAttest 2287
+unfolding tpmsAttest
+attest-most =
+    follows 4 2283 magic (λ n. follows 2 2281 attestation (λ type. buffer-most 2 66 2213 (buffer-most 2 66 2145 (then-most _ _ 17 2128 clock-most (follows 8 2120 free (λ n. attest-by-most type))))))
+
+-- ---- and one is so large
+
+ha-reaches : Reaches tpmtHa 66
+unfolding tpmtHa isAlgorithm algorithms tpmuHa tpmuHaArm
+ha-reaches = number-reaches 2 alg 0x0D (omega arith) refl (arm-reaches 0x0D 65 (plain-reaches 64 stop-reaches))
+
+code-reaches : Reaches (one 2 alg) 2
+unfolding isAlgorithm algorithms
+code-reaches = number-reaches 2 alg 0x0B (omega arith) refl stop-reaches
+
+asym-reaches : Reaches tpmtAsymScheme 4
+unfolding tpmtAsymScheme isAlgorithm algorithms tpmuAsymScheme tpmuAsymSchemeArm tpmsSchemeHash
+asym-reaches = number-reaches 2 alg 0x14 (omega arith) refl (arm-reaches 0x14 1 code-reaches)
+
+sig-reaches : Reaches tpmtSigScheme 4
+unfolding tpmtSigScheme isAlgorithm algorithms tpmuSigScheme tpmuSigSchemeArm tpmsSchemeHash
+sig-reaches = number-reaches 2 alg 0x14 (omega arith) refl (arm-reaches 0x14 1 code-reaches)
+
+keyedhash-reaches : Reaches tpmtKeyedhashScheme 6
+unfolding tpmtKeyedhashScheme isAlgorithm algorithms tpmuKeyedhashScheme tpmuKeyedhashSchemeArm tpmsSchemeXor
+keyedhash-reaches = number-reaches 2 alg 0x0A (omega arith) refl (arm-reaches 0x0A 0x0A (number-reaches 2 alg 0x0B (omega arith) refl code-reaches))
+
+kdf-reaches : Reaches tpmtKdfScheme 4
+unfolding tpmtKdfScheme isAlgorithm algorithms tpmuKdfScheme tpmuKdfSchemeArm tpmsSchemeHash
+kdf-reaches = number-reaches 2 alg 0x07 (omega arith) refl (arm-reaches 0x07 0x07 code-reaches)
+
+sym-def-reaches : Reaches tpmtSymDef 6
+unfolding tpmtSymDef isAlgorithm algorithms tpmuSymKeyBits tpmuSymMode tpmuSymKeyBitsArm tpmuSymModeArm
+sym-def-reaches =
+    number-reaches 2 alg 0x06 (omega arith) refl (then-reaches (arm-reaches 0x06 0x06 (number-reaches 2 free 128 (omega arith) refl stop-reaches)) (arm-reaches 0x06 0x06 code-reaches))
+
+rsa-parms-reaches : Reaches tpmsRsaParms 16
+unfolding tpmsRsaParms
+rsa-parms-reaches = then-reaches sym-def-reaches (then-reaches asym-reaches (number-reaches 2 free 2048 (omega arith) refl (number-reaches 4 free 0 (omega arith) refl stop-reaches)))
+
+parms-reaches : Reaches (tpmuPublicParms 0x01) 16
+unfolding tpmuPublicParms tpmuPublicParmsArm
+parms-reaches = arm-reaches 0x01 0x01 rsa-parms-reaches
+
+unique-reaches : Reaches (tpmuPublicId 0x01) 514
+unfolding tpmuPublicId tpmuPublicIdArm
+unique-reaches = arm-reaches 0x01 0x01 (buffer-reaches 2 512 (omega arith) stop-reaches)
+
+public-parms-reaches : Reaches tpmtPublicParms 18
+unfolding tpmtPublicParms isAlgorithm algorithms
+public-parms-reaches = number-reaches 2 alg 0x01 (omega arith) refl parms-reaches
+
+signature-reaches : Reaches tpmtSignature 518
+unfolding tpmtSignature isAlgorithm algorithms tpmuSignature tpmuSignatureArm tpmsSignatureRsa
+signature-reaches = number-reaches 2 alg 0x14 (omega arith) refl (arm-reaches 0x14 0x14 (number-reaches 2 alg 0x0B (omega arith) refl (buffer-reaches 2 512 (omega arith) stop-reaches)))
+
+public-area-reaches : Reaches tpmtPublic 604
+unfolding tpmtPublic isAlgorithm algorithms
+public-area-reaches =
+    number-reaches 2 alg 0x01 (omega arith) refl
+    (number-reaches 2 alg 0x0B (omega arith) refl
+    (number-reaches 4 free 0 (omega arith) refl
+    (buffer-reaches 2 64 (omega arith) (then-reaches parms-reaches unique-reaches))))
+
+sensitive-reaches : Reaches tpmtSensitive 392
+unfolding tpmtSensitive isAlgorithm algorithms tpmuSensitiveComposite tpmuSensitiveCompositeArm
+sensitive-reaches =
+    number-reaches 2 alg 0x01 (omega arith) refl
+    (buffer-reaches 2 64 (omega arith) (buffer-reaches 2 64 (omega arith) (arm-reaches 0x01 0x01 (buffer-reaches 2 256 (omega arith) stop-reaches))))
+
+pcr-reaches : Reaches tpmlPcrSelection 116
+unfolding tpmlPcrSelection
+pcr-reaches = list-greatest PcrSelection .reached
+
+clock-reaches : Reaches tpmsClockInfo 17
+unfolding tpmsClockInfo
+clock-reaches =
+    number-reaches 8 free 0 (omega arith) refl
+    (number-reaches 4 free 0 (omega arith) refl
+    (number-reaches 4 free 0 (omega arith) refl
+    (number-reaches 1 yesNo 1 (omega arith) refl stop-reaches)))
+
+nv-reaches : Reaches (tpmuAttest 0x8014) 2120
+unfolding tpmuAttest tpmuAttestArm tpmsNvCertifyInfo
+nv-reaches = arm-reaches 0x8014 0x8014 (buffer-reaches 2 66 (omega arith) (number-reaches 2 free 0 (omega arith) refl (buffer-reaches 2 2048 (omega arith) stop-reaches)))
+
+attest-reaches : Reaches tpmsAttest 2287
+unfolding tpmsAttest isAttestation attestations
+attest-reaches =
+    number-reaches 4 magic 0xFF544347 (omega arith) refl
+    (number-reaches 2 attestation 0x8014 (omega arith) refl
+    (buffer-reaches 2 66 (omega arith)
+    (buffer-reaches 2 66 (omega arith) (then-reaches clock-reaches (number-reaches 8 free 0 (omega arith) refl nv-reaches)))))
+
+-- ---- all fourteen
+
+-- the greatest sizes, kinds 1 to 14
+unfoldable pub greatest : List ℕ
+greatest = 66 ∷ 6 ∷ 4 ∷ 6 ∷ 4 ∷ 4 ∷ 4 ∷ 4 ∷ 18 ∷ 518 ∷ 604 ∷ 392 ∷ 2287 ∷ 116 ∷ []
+
+abbrev pub AllGreatest : List Layout → List ℕ → Type 0
+AllGreatest [] [] = Unit {0}
+AllGreatest [] (m ∷ ms) = ⊥
+AllGreatest (l ∷ ls) [] = ⊥
+AllGreatest (l ∷ ls) (m ∷ ms) = Greatest l m × AllGreatest ls ms
+
+both : {l : Layout} {m : ℕ} → AtMost l m → Reaches l m → Greatest l m
+both h g = record { most = h; reached = g }
+
+-- no record of a kind is larger than this, and one is so large
+pub greatest-sizes : AllGreatest kinds greatest
+unfolding kinds greatest
+greatest-sizes =
+    let scheme = both asym-most asym-reaches in
+    both ha-most ha-reaches
+    & both sym-def-most sym-def-reaches
+    & both kdf-most kdf-reaches
+    & both keyedhash-most keyedhash-reaches
+    & both sig-most sig-reaches
+    & scheme & scheme & scheme
+    & both public-parms-most public-parms-reaches
+    & both signature-most signature-reaches
+    & both public-area-most public-area-reaches
+    & both sensitive-most sensitive-reaches
+    & both attest-most attest-reaches
+    & both pcr-most pcr-reaches
+    & tt

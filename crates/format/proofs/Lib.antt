@@ -1,0 +1,9 @@
+pub mod Ranges
+pub mod Values
+pub mod Choices
+pub mod Tables
+pub mod Lists
+pub mod Greatest
+pub mod Numbered
+pub mod Samples
+pub mod Once

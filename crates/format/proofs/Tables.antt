@@ -1,0 +1,82 @@
+-- What holds of the twelve tables. Assumes nothing.
+use Prim.Native.Nat.{ℕ, zero, suc, _≤_}
+use native.Mathlib.Omega.{arith}
+use mathlib.Core.Path.{_≡_, refl, sym}
+use mathlib.Core.Bool.{Bool, true, false, cond}
+use mathlib.Core.List.{List, [], _∷_, map}
+use Rattle.wire.specs.declared.choice.Choice.the-variants.{Nothing, The}
+use Rattle.wire.specs.Layout.{Layout, stop, plain}
+use Rattle.wire.specs.Unions.{Row, bodyOf}
+use Rattle.format.specs.Kinds.{empty, digestOf, tpmsSchemeHash, tpmuHaTable, tpmuAsymSchemeTable, tpmuSigSchemeTable, tpmuKeyedhashSchemeTable, tpmuKdfSchemeTable, tpmuSymKeyBitsTable, tpmuSymModeTable, tpmuPublicParmsTable, tpmuPublicIdTable, tpmuSensitiveCompositeTable, tpmuSignatureTable, tpmuAttestTable, tpmuHaArm, tpmuHaBody, tpmuSigSchemeArm, tpmuSigSchemeBody, tpmuSymKeyBitsArm, tpmuSymModeArm, tpmuPublicParmsArm, tpmuPublicIdArm, tpmuAttestArm}
+use Rattle.format.specs.Codes.{member, attestations, isAttestation}
+use Rattle.format.proofs.Choices.{chosen-has, chosen-listed, none-listed}
+
+-- each row's arm holds what the row says: rows that choose one arm hold the same
+abbrev pub Agrees : List Row → Type 0
+Agrees rs = map (λ (r : Row). bodyOf rs (r .chooses)) rs ≡ map (λ (r : Row). r .holds) rs
+
+abbrev pub AllAgree : List (List Row) → Type 0
+AllAgree [] = Unit {0}
+AllAgree (rs ∷ rss) = Agrees rs × AllAgree rss
+
+-- the twelve tables
+abbrev pub tables : List (List Row)
+tables =
+    tpmuHaTable
+    ∷ tpmuAsymSchemeTable
+    ∷ tpmuSigSchemeTable
+    ∷ tpmuKeyedhashSchemeTable
+    ∷ tpmuKdfSchemeTable
+    ∷ tpmuSymKeyBitsTable
+    ∷ tpmuSymModeTable
+    ∷ tpmuPublicParmsTable
+    ∷ tpmuPublicIdTable
+    ∷ tpmuSensitiveCompositeTable
+    ∷ tpmuSignatureTable
+    ∷ tpmuAttestTable
+    ∷ []
+
+pub tables-agree : AllAgree tables
+tables-agree = (refl, (refl, (refl, (refl, (refl, (refl, (refl, (refl, (refl, (refl, (refl, (refl, tt))))))))))))
+
+-- key bits and mode are chosen alike, and so are parameters and unique
+pub mode-arm : (v : ℕ) → tpmuSymModeArm v ≡ tpmuSymKeyBitsArm v
+unfolding tpmuSymModeArm tpmuSymKeyBitsArm
+mode-arm v = refl
+
+pub id-arm : (v : ℕ) → tpmuPublicIdArm v ≡ tpmuPublicParmsArm v
+unfolding tpmuPublicIdArm tpmuPublicParmsArm
+id-arm v = refl
+
+-- a digest's arm, one more than its length, is at most 65
+pub digest-short : (v : ℕ) {t : ℕ} → tpmuHaArm v ≡ The t → t ≤ 65
+unfolding tpmuHaArm
+digest-short v e = chosen-has (λ t. t ≤ 65) tpmuHaTable (omega arith) v e
+
+abbrev digestHeld : ℕ → Layout
+digestHeld zero = stop
+digestHeld (suc n) = plain n stop
+
+-- and holds so many bytes
+pub digest-body : (v : ℕ) {n : ℕ} → tpmuHaArm v ≡ The (digestOf n) → tpmuHaBody (digestOf n) ≡ plain n stop
+unfolding tpmuHaArm
+digest-body v e = chosen-has (λ t. tpmuHaBody t ≡ digestHeld t) tpmuHaTable (refl, (refl, (refl, (refl, (refl, (refl, (refl, (refl, (refl, (refl, (refl, (refl, tt)))))))))))) v e
+
+abbrev schemeHeld : ℕ → Layout
+schemeHeld zero = stop
+schemeHeld (suc n) = tpmsSchemeHash
+
+-- an arm of the signing schemes that is not empty holds a hash code
+pub hash-body : (v : ℕ) (t : ℕ) → tpmuSigSchemeArm v ≡ The t → (t ≡ empty → ⊥) → tpmuSigSchemeBody t ≡ tpmsSchemeHash
+unfolding tpmuSigSchemeArm
+hash-body v zero e h = absurd (h refl)
+hash-body v (suc t) e h = chosen-has (λ t. tpmuSigSchemeBody t ≡ schemeHeld t) tpmuSigSchemeTable (refl, (refl, (refl, (refl, (refl, (refl, (refl, (refl, tt)))))))) v e
+
+-- the listed attestation types are those with an arm
+pub attestation-arm : (v : ℕ) → tpmuAttestArm v ≡ cond (isAttestation v) (The v) Nothing
+unfolding tpmuAttestArm isAttestation attestations
+attestation-arm v = by (member attestations v) refl
+  where
+    by : (b : Bool) → member attestations v ≡ b → tpmuAttestArm v ≡ cond b (The v) Nothing
+    by true e = sym (chosen-listed The tpmuAttestTable attestations refl v e)
+    by false e = sym (none-listed tpmuAttestTable attestations refl v e)

@@ -1,0 +1,24 @@
+-- Each code of the pattern is a row's, and every row's code is in it. Assumes nothing.
+use mathlib.Core.List.{List, [], _∷_}
+use mathlib.Core.Path.{refl}
+use Prim.Native.Nat.{ℕ}
+use Rattle.wire.specs.declared.choice.Choice.the-variants.{The}
+use Rattle.format.specs.Codes.{hmac, xor, null}
+use Rattle.format.specs.Kinds.{tpmuKeyedhashSchemeTable, tpmuKeyedhashSchemeArm}
+use Rattle.format.proofs.Choices.{chosen-among, none-unmatched}
+use Rattle.format.proofs.codes.TpmAlgId.keyedhash_scheme_arm.Statement.{statement}
+use Rattle.format.proofs.codes.TpmAlgId.keyedhash_scheme_arm.Tie as tie
+
+abbrev pattern : List ℕ
+pattern = hmac ∷ xor ∷ null ∷ []
+
+returns : tie.Need-returns
+unfolding tpmuKeyedhashSchemeArm
+returns c = chosen-among The tpmuKeyedhashSchemeTable pattern refl _ (c .match .keys1)
+
+returns-2 : tie.Need-returns-2
+unfolding tpmuKeyedhashSchemeArm
+returns-2 c = none-unmatched tpmuKeyedhashSchemeTable (pattern ∷ []) refl _ (c .match .rest)
+
+pub keyedhash-scheme-arm-spec : {M : Type 1} → statement M
+keyedhash-scheme-arm-spec = tie.close (tie.spec returns returns-2)

@@ -1,0 +1,24 @@
+-- Each code of the pattern is a row's, and every row's code is in it. Assumes nothing.
+use mathlib.Core.List.{List, [], _∷_}
+use mathlib.Core.Path.{refl}
+use Prim.Native.Nat.{ℕ}
+use Rattle.wire.specs.declared.choice.Choice.the-variants.{The}
+use Rattle.format.specs.Codes.{aes, xor, null, sm4, camellia}
+use Rattle.format.specs.Kinds.{tpmuSymKeyBitsTable, tpmuSymKeyBitsArm}
+use Rattle.format.proofs.Choices.{chosen-among, none-unmatched}
+use Rattle.format.proofs.codes.TpmAlgId.sym_key_bits_arm.Statement.{statement}
+use Rattle.format.proofs.codes.TpmAlgId.sym_key_bits_arm.Tie as tie
+
+abbrev pattern : List ℕ
+pattern = aes ∷ xor ∷ null ∷ sm4 ∷ camellia ∷ []
+
+returns : tie.Need-returns
+unfolding tpmuSymKeyBitsArm
+returns c = chosen-among The tpmuSymKeyBitsTable pattern refl _ (c .match .keys1)
+
+returns-2 : tie.Need-returns-2
+unfolding tpmuSymKeyBitsArm
+returns-2 c = none-unmatched tpmuSymKeyBitsTable (pattern ∷ []) refl _ (c .match .rest)
+
+pub sym-key-bits-arm-spec : {M : Type 1} → statement M
+sym-key-bits-arm-spec = tie.close (tie.spec returns returns-2)

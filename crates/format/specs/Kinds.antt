@@ -1,0 +1,493 @@
+-- The fourteen kinds as layouts: a line a field, in wire order, with Part 2's names; and one table a union. Assumes nothing.
+use Prim.Native.Nat.{ℕ, zero, suc}
+use mathlib.Core.Bool.{Bool, _&&_, cond}
+use mathlib.Core.List.{List, [], _∷_}
+use lib.ListN.{length, getD}
+use lib.Dec.{leb, ltb}
+use Rattle.wire.specs.declared.choice.Choice.{Choice}
+use Rattle.wire.specs.Faults.{badKind}
+use Rattle.wire.specs.Layout.{Layout, stop, noArm, number, plain, buffer, counted, one, free, _then_}
+use Rattle.wire.specs.Reading.{Reader, Parsed, refused, read}
+use Rattle.wire.specs.Unions.{Row, row, own, armOf, bodyOf, union}
+use Rattle.format.specs.declared.list.ListOf.{ListOf}
+use Rattle.format.specs.declared.list.ListOf.the-variants.{PcrSelection}
+use Rattle.format.specs.Codes.{alg, curve, attestation, yesNo, magic, rsa, sha1, hmac, aes, mgf1, keyedHash, xor, sha256, sha384, sha512, null, sm3-256, sm4, rsassa, rsaes, rsapss, oaep, ecdsa, ecdh, ecdaa, sm2, ecschnorr, ecmqv, kdf1-sp800-56a, kdf2, kdf1-sp800-108, ecc, symCipher, camellia, sha3-256, sha3-384, sha3-512, shake256-192, shake256-256, shake256-512, attestNv, attestCommandAudit, attestSessionAudit, attestCertify, attestQuote, attestTime, attestCreation, attestNvDigest}
+
+-- ---- limits of the buffers, in bytes
+
+-- a digest, an auth value, a seed
+abbrev pub digest : Layout → Layout
+digest l = buffer 2 64 l
+
+abbrev pub publicKeyRsa : Layout → Layout
+publicKeyRsa l = buffer 2 512 l
+
+-- an RSA private key, or sensitive data
+abbrev pub privateData : Layout → Layout
+privateData l = buffer 2 256 l
+
+abbrev pub eccParameter : Layout → Layout
+eccParameter l = buffer 2 66 l
+
+abbrev pub symKey : Layout → Layout
+symKey l = buffer 2 32 l
+
+abbrev pub name : Layout → Layout
+name l = buffer 2 66 l
+
+-- qualifying data
+abbrev pub qualifying : Layout → Layout
+qualifying l = buffer 2 66 l
+
+abbrev pub nvContents : Layout → Layout
+nvContents l = buffer 2 2048 l
+
+-- ---- the arms of unions: where several selectors choose one arm, it has a number of its own; elsewhere it has its selector's code
+
+-- the empty arm
+abbrev pub empty : ℕ
+empty = 0
+
+-- a digest of n bytes: one more than its length, so that no digest is the empty arm
+abbrev pub digestOf : ℕ → ℕ
+digestOf n = suc n
+
+-- a hash code; and the signing scheme's Hmac arm, which holds one too and is another arm
+abbrev pub hash : ℕ
+hash = 1
+
+abbrev pub hmacHash : ℕ
+hmacHash = 2
+
+-- ---- digests, ciphers and schemes: kinds 1 to 8
+
+-- TPMS_SCHEME_HASH: a hash code
+unfoldable pub tpmsSchemeHash : Layout
+tpmsSchemeHash = one 2 alg
+
+-- TPMS_SCHEME_XOR: a hash code and a KDF code
+unfoldable pub tpmsSchemeXor : Layout
+tpmsSchemeXor = number 2 alg (λ hashAlg. one 2 alg)
+
+-- TPMU_HA: a plain digest as long as its algorithm has it, or nothing
+abbrev pub digestRow : (selector n : ℕ) → Row
+digestRow v n = row v (digestOf n) (plain n stop)
+
+abbrev pub tpmuHaTable : List Row
+tpmuHaTable =
+    digestRow sha1 20
+    ∷ digestRow shake256-192 24
+    ∷ digestRow sha256 32
+    ∷ digestRow sm3-256 32
+    ∷ digestRow sha3-256 32
+    ∷ digestRow shake256-256 32
+    ∷ digestRow sha384 48
+    ∷ digestRow sha3-384 48
+    ∷ digestRow sha512 64
+    ∷ digestRow sha3-512 64
+    ∷ digestRow shake256-512 64
+    ∷ row null empty stop
+    ∷ []
+
+unfoldable pub tpmuHaArm : ℕ → Choice
+tpmuHaArm v = armOf tpmuHaTable v
+
+abbrev pub tpmuHaBody : ℕ → Layout
+tpmuHaBody t = bodyOf tpmuHaTable t
+
+unfoldable pub tpmuHa : ℕ → Layout
+tpmuHa v = union (tpmuHaArm v) tpmuHaBody v
+
+-- TPMU_ASYM_SCHEME: a hash code, or nothing
+abbrev pub tpmuAsymSchemeTable : List Row
+tpmuAsymSchemeTable =
+    row rsaes empty stop
+    ∷ row null empty stop
+    ∷ row rsassa hash tpmsSchemeHash
+    ∷ row rsapss hash tpmsSchemeHash
+    ∷ row ecdsa hash tpmsSchemeHash
+    ∷ row ecdaa hash tpmsSchemeHash
+    ∷ row sm2 hash tpmsSchemeHash
+    ∷ row ecschnorr hash tpmsSchemeHash
+    ∷ row oaep hash tpmsSchemeHash
+    ∷ row ecdh hash tpmsSchemeHash
+    ∷ row ecmqv hash tpmsSchemeHash
+    ∷ []
+
+unfoldable pub tpmuAsymSchemeArm : ℕ → Choice
+tpmuAsymSchemeArm v = armOf tpmuAsymSchemeTable v
+
+abbrev pub tpmuAsymSchemeBody : ℕ → Layout
+tpmuAsymSchemeBody t = bodyOf tpmuAsymSchemeTable t
+
+unfoldable pub tpmuAsymScheme : ℕ → Layout
+tpmuAsymScheme v = union (tpmuAsymSchemeArm v) tpmuAsymSchemeBody v
+
+-- TPMU_SIG_SCHEME: a hash code, or nothing; the Hmac arm is apart
+abbrev pub tpmuSigSchemeTable : List Row
+tpmuSigSchemeTable =
+    row hmac hmacHash tpmsSchemeHash
+    ∷ row rsassa hash tpmsSchemeHash
+    ∷ row rsapss hash tpmsSchemeHash
+    ∷ row ecdsa hash tpmsSchemeHash
+    ∷ row ecdaa hash tpmsSchemeHash
+    ∷ row sm2 hash tpmsSchemeHash
+    ∷ row ecschnorr hash tpmsSchemeHash
+    ∷ row null empty stop
+    ∷ []
+
+unfoldable pub tpmuSigSchemeArm : ℕ → Choice
+tpmuSigSchemeArm v = armOf tpmuSigSchemeTable v
+
+abbrev pub tpmuSigSchemeBody : ℕ → Layout
+tpmuSigSchemeBody t = bodyOf tpmuSigSchemeTable t
+
+unfoldable pub tpmuSigScheme : ℕ → Layout
+tpmuSigScheme v = union (tpmuSigSchemeArm v) tpmuSigSchemeBody v
+
+-- TPMU_SCHEME_KEYEDHASH
+abbrev pub tpmuKeyedhashSchemeTable : List Row
+tpmuKeyedhashSchemeTable =
+    own hmac tpmsSchemeHash
+    ∷ own xor tpmsSchemeXor
+    ∷ own null stop
+    ∷ []
+
+unfoldable pub tpmuKeyedhashSchemeArm : ℕ → Choice
+tpmuKeyedhashSchemeArm v = armOf tpmuKeyedhashSchemeTable v
+
+abbrev pub tpmuKeyedhashSchemeBody : ℕ → Layout
+tpmuKeyedhashSchemeBody t = bodyOf tpmuKeyedhashSchemeTable t
+
+unfoldable pub tpmuKeyedhashScheme : ℕ → Layout
+tpmuKeyedhashScheme v = union (tpmuKeyedhashSchemeArm v) tpmuKeyedhashSchemeBody v
+
+-- TPMU_KDF_SCHEME
+abbrev pub tpmuKdfSchemeTable : List Row
+tpmuKdfSchemeTable =
+    own mgf1 tpmsSchemeHash
+    ∷ own kdf1-sp800-56a tpmsSchemeHash
+    ∷ own kdf2 tpmsSchemeHash
+    ∷ own kdf1-sp800-108 tpmsSchemeHash
+    ∷ own null stop
+    ∷ []
+
+unfoldable pub tpmuKdfSchemeArm : ℕ → Choice
+tpmuKdfSchemeArm v = armOf tpmuKdfSchemeTable v
+
+abbrev pub tpmuKdfSchemeBody : ℕ → Layout
+tpmuKdfSchemeBody t = bodyOf tpmuKdfSchemeTable t
+
+unfoldable pub tpmuKdfScheme : ℕ → Layout
+tpmuKdfScheme v = union (tpmuKdfSchemeArm v) tpmuKdfSchemeBody v
+
+-- TPMU_SYM_KEY_BITS: key bits, which are no count of bytes; of XOR a hash code
+abbrev pub tpmuSymKeyBitsTable : List Row
+tpmuSymKeyBitsTable =
+    own aes (one 2 free)
+    ∷ own sm4 (one 2 free)
+    ∷ own camellia (one 2 free)
+    ∷ own xor (one 2 alg)
+    ∷ own null stop
+    ∷ []
+
+unfoldable pub tpmuSymKeyBitsArm : ℕ → Choice
+tpmuSymKeyBitsArm v = armOf tpmuSymKeyBitsTable v
+
+abbrev pub tpmuSymKeyBitsBody : ℕ → Layout
+tpmuSymKeyBitsBody t = bodyOf tpmuSymKeyBitsTable t
+
+unfoldable pub tpmuSymKeyBits : ℕ → Layout
+tpmuSymKeyBits v = union (tpmuSymKeyBitsArm v) tpmuSymKeyBitsBody v
+
+-- TPMU_SYM_MODE: a mode; XOR has one too, as in the crate
+abbrev pub tpmuSymModeTable : List Row
+tpmuSymModeTable =
+    own aes (one 2 alg)
+    ∷ own sm4 (one 2 alg)
+    ∷ own camellia (one 2 alg)
+    ∷ own xor (one 2 alg)
+    ∷ own null stop
+    ∷ []
+
+unfoldable pub tpmuSymModeArm : ℕ → Choice
+tpmuSymModeArm v = armOf tpmuSymModeTable v
+
+abbrev pub tpmuSymModeBody : ℕ → Layout
+tpmuSymModeBody t = bodyOf tpmuSymModeTable t
+
+unfoldable pub tpmuSymMode : ℕ → Layout
+tpmuSymMode v = union (tpmuSymModeArm v) tpmuSymModeBody v
+
+-- ---- kinds 1 to 8
+
+-- kind 1, TPMT_HA
+unfoldable pub tpmtHa : Layout
+tpmtHa = number 2 alg (λ hashAlg. tpmuHa hashAlg)
+
+-- kind 2, TPMT_SYM_DEF: a Null cipher has neither key bits nor mode
+unfoldable pub tpmtSymDef : Layout
+tpmtSymDef = number 2 alg (λ algorithm. tpmuSymKeyBits algorithm then tpmuSymMode algorithm)
+
+-- kind 3, TPMT_KDF_SCHEME
+unfoldable pub tpmtKdfScheme : Layout
+tpmtKdfScheme = number 2 alg (λ scheme. tpmuKdfScheme scheme)
+
+-- kind 4, TPMT_KEYEDHASH_SCHEME
+unfoldable pub tpmtKeyedhashScheme : Layout
+tpmtKeyedhashScheme = number 2 alg (λ scheme. tpmuKeyedhashScheme scheme)
+
+-- kind 5, TPMT_SIG_SCHEME
+unfoldable pub tpmtSigScheme : Layout
+tpmtSigScheme = number 2 alg (λ scheme. tpmuSigScheme scheme)
+
+-- kinds 6, 7 and 8, TPMT_RSA_SCHEME, TPMT_ECC_SCHEME and TPMT_RSA_DECRYPT
+unfoldable pub tpmtAsymScheme : Layout
+tpmtAsymScheme = number 2 alg (λ scheme. tpmuAsymScheme scheme)
+
+-- ---- keys
+
+-- TPMS_RSA_PARMS
+unfoldable pub tpmsRsaParms : Layout
+tpmsRsaParms =
+    tpmtSymDef
+    then tpmtAsymScheme
+    then number 2 free (λ keyBits. number 4 free (λ exponent. stop))
+
+-- TPMS_ECC_PARMS
+unfoldable pub tpmsEccParms : Layout
+tpmsEccParms =
+    tpmtSymDef
+    then tpmtAsymScheme
+    then number 2 curve (λ curveID. tpmtKdfScheme)
+
+-- TPMU_PUBLIC_PARMS
+abbrev pub tpmuPublicParmsTable : List Row
+tpmuPublicParmsTable =
+    own keyedHash tpmtKeyedhashScheme
+    ∷ own symCipher tpmtSymDef
+    ∷ own rsa tpmsRsaParms
+    ∷ own ecc tpmsEccParms
+    ∷ own null stop
+    ∷ []
+
+unfoldable pub tpmuPublicParmsArm : ℕ → Choice
+tpmuPublicParmsArm v = armOf tpmuPublicParmsTable v
+
+abbrev pub tpmuPublicParmsBody : ℕ → Layout
+tpmuPublicParmsBody t = bodyOf tpmuPublicParmsTable t
+
+unfoldable pub tpmuPublicParms : ℕ → Layout
+tpmuPublicParms v = union (tpmuPublicParmsArm v) tpmuPublicParmsBody v
+
+-- TPMS_ECC_POINT: x and y
+unfoldable pub tpmsEccPoint : Layout
+tpmsEccPoint = eccParameter (eccParameter stop)
+
+-- TPMU_PUBLIC_ID
+abbrev pub tpmuPublicIdTable : List Row
+tpmuPublicIdTable =
+    own keyedHash (digest stop)
+    ∷ own symCipher (symKey stop)
+    ∷ own rsa (publicKeyRsa stop)
+    ∷ own ecc tpmsEccPoint
+    ∷ own null stop
+    ∷ []
+
+unfoldable pub tpmuPublicIdArm : ℕ → Choice
+tpmuPublicIdArm v = armOf tpmuPublicIdTable v
+
+abbrev pub tpmuPublicIdBody : ℕ → Layout
+tpmuPublicIdBody t = bodyOf tpmuPublicIdTable t
+
+unfoldable pub tpmuPublicId : ℕ → Layout
+tpmuPublicId v = union (tpmuPublicIdArm v) tpmuPublicIdBody v
+
+-- TPMU_SENSITIVE_COMPOSITE: no Null
+abbrev pub tpmuSensitiveCompositeTable : List Row
+tpmuSensitiveCompositeTable =
+    own rsa (privateData stop)
+    ∷ own ecc (eccParameter stop)
+    ∷ own keyedHash (privateData stop)
+    ∷ own symCipher (symKey stop)
+    ∷ []
+
+unfoldable pub tpmuSensitiveCompositeArm : ℕ → Choice
+tpmuSensitiveCompositeArm v = armOf tpmuSensitiveCompositeTable v
+
+abbrev pub tpmuSensitiveCompositeBody : ℕ → Layout
+tpmuSensitiveCompositeBody t = bodyOf tpmuSensitiveCompositeTable t
+
+unfoldable pub tpmuSensitiveComposite : ℕ → Layout
+tpmuSensitiveComposite v = union (tpmuSensitiveCompositeArm v) tpmuSensitiveCompositeBody v
+
+-- TPMS_SIGNATURE_RSA: hash, sig
+unfoldable pub tpmsSignatureRsa : Layout
+tpmsSignatureRsa = number 2 alg (λ hashAlg. publicKeyRsa stop)
+
+-- TPMS_SIGNATURE_ECC: hash, r, s
+unfoldable pub tpmsSignatureEcc : Layout
+tpmsSignatureEcc = number 2 alg (λ hashAlg. eccParameter (eccParameter stop))
+
+-- TPMU_SIGNATURE
+abbrev pub tpmuSignatureTable : List Row
+tpmuSignatureTable =
+    own rsassa tpmsSignatureRsa
+    ∷ own rsapss tpmsSignatureRsa
+    ∷ own ecdsa tpmsSignatureEcc
+    ∷ own ecdaa tpmsSignatureEcc
+    ∷ own sm2 tpmsSignatureEcc
+    ∷ own ecschnorr tpmsSignatureEcc
+    ∷ own hmac tpmtHa
+    ∷ own null stop
+    ∷ []
+
+unfoldable pub tpmuSignatureArm : ℕ → Choice
+tpmuSignatureArm v = armOf tpmuSignatureTable v
+
+abbrev pub tpmuSignatureBody : ℕ → Layout
+tpmuSignatureBody t = bodyOf tpmuSignatureTable t
+
+unfoldable pub tpmuSignature : ℕ → Layout
+tpmuSignature v = union (tpmuSignatureArm v) tpmuSignatureBody v
+
+-- kind 9, TPMT_PUBLIC_PARMS
+unfoldable pub tpmtPublicParms : Layout
+tpmtPublicParms = number 2 alg (λ type. tpmuPublicParms type)
+
+-- kind 10, TPMT_SIGNATURE
+unfoldable pub tpmtSignature : Layout
+tpmtSignature = number 2 alg (λ sigAlg. tpmuSignature sigAlg)
+
+-- kind 11, TPMT_PUBLIC: both arms by type
+unfoldable pub tpmtPublic : Layout
+tpmtPublic =
+    number 2 alg (λ type.
+    number 2 alg (λ nameAlg.
+    number 4 free (λ objectAttributes.
+    digest (
+    tpmuPublicParms type then tpmuPublicId type))))
+
+-- kind 12, TPMT_SENSITIVE
+unfoldable pub tpmtSensitive : Layout
+tpmtSensitive =
+    number 2 alg (λ sensitiveType.
+    digest (
+    digest (
+    tpmuSensitiveComposite sensitiveType)))
+
+-- ---- PCR selections and attestations: kinds 14 and 13
+
+-- TPMS_PCR_SELECTION: hash, size and so many bytes of bits
+unfoldable pub tpmsPcrSelection : Layout
+tpmsPcrSelection = number 2 alg (λ hashAlg. buffer 1 4 stop)
+
+-- the lists, a line each: what an item is, and how many there are at most
+abbrev pub itemLayout : ListOf → Layout
+itemLayout PcrSelection = tpmsPcrSelection
+
+abbrev pub mostItems : ListOf → ℕ
+mostItems PcrSelection = 16
+
+-- kind 14, TPML_PCR_SELECTION
+unfoldable pub tpmlPcrSelection : Layout
+tpmlPcrSelection = counted (mostItems PcrSelection) (itemLayout PcrSelection) stop
+
+-- TPMS_CLOCK_INFO
+unfoldable pub tpmsClockInfo : Layout
+tpmsClockInfo =
+    number 8 free (λ clock.
+    number 4 free (λ resetCount.
+    number 4 free (λ restartCount.
+    number 1 yesNo (λ safe. stop))))
+
+-- TPMS_CERTIFY_INFO: name, qualified name
+unfoldable pub tpmsCertifyInfo : Layout
+tpmsCertifyInfo = name (name stop)
+
+-- TPMS_CREATION_INFO: object name, creation hash
+unfoldable pub tpmsCreationInfo : Layout
+tpmsCreationInfo = name (digest stop)
+
+-- TPMS_QUOTE_INFO: PCR selections, PCR digest
+unfoldable pub tpmsQuoteInfo : Layout
+tpmsQuoteInfo = tpmlPcrSelection then digest stop
+
+-- TPMS_COMMAND_AUDIT_INFO: audit digest and command digest last
+unfoldable pub tpmsCommandAuditInfo : Layout
+tpmsCommandAuditInfo = number 8 free (λ auditCounter. number 2 alg (λ digestAlg. digest (digest stop)))
+
+-- TPMS_SESSION_AUDIT_INFO
+unfoldable pub tpmsSessionAuditInfo : Layout
+tpmsSessionAuditInfo = number 1 yesNo (λ exclusiveSession. digest stop)
+
+-- TPMS_TIME_INFO
+unfoldable pub tpmsTimeInfo : Layout
+tpmsTimeInfo = number 8 free (λ time. tpmsClockInfo)
+
+-- TPMS_TIME_ATTEST_INFO: time and clock, then firmware
+unfoldable pub tpmsTimeAttestInfo : Layout
+tpmsTimeAttestInfo = tpmsTimeInfo then one 8 free
+
+-- TPMS_NV_CERTIFY_INFO: index name, offset, contents
+unfoldable pub tpmsNvCertifyInfo : Layout
+tpmsNvCertifyInfo = name (number 2 free (λ offset. nvContents stop))
+
+-- TPMS_NV_DIGEST_CERTIFY_INFO: index name, digest
+unfoldable pub tpmsNvDigestCertifyInfo : Layout
+tpmsNvDigestCertifyInfo = name (digest stop)
+
+-- TPMU_ATTEST
+abbrev pub tpmuAttestTable : List Row
+tpmuAttestTable =
+    own attestCertify tpmsCertifyInfo
+    ∷ own attestCreation tpmsCreationInfo
+    ∷ own attestQuote tpmsQuoteInfo
+    ∷ own attestCommandAudit tpmsCommandAuditInfo
+    ∷ own attestSessionAudit tpmsSessionAuditInfo
+    ∷ own attestTime tpmsTimeAttestInfo
+    ∷ own attestNv tpmsNvCertifyInfo
+    ∷ own attestNvDigest tpmsNvDigestCertifyInfo
+    ∷ []
+
+unfoldable pub tpmuAttestArm : ℕ → Choice
+tpmuAttestArm v = armOf tpmuAttestTable v
+
+abbrev pub tpmuAttestBody : ℕ → Layout
+tpmuAttestBody t = bodyOf tpmuAttestTable t
+
+unfoldable pub tpmuAttest : ℕ → Layout
+tpmuAttest v = union (tpmuAttestArm v) tpmuAttestBody v
+
+-- kind 13, TPMS_ATTEST
+unfoldable pub tpmsAttest : Layout
+tpmsAttest =
+    number 4 magic (λ magic.
+    number 2 attestation (λ type.
+    name (
+    qualifying (
+    tpmsClockInfo then
+    number 8 free (λ firmwareVersion.
+    tpmuAttest type)))))
+
+-- ---- by number
+
+-- the kinds from 1 on; 0 is none
+unfoldable pub kinds : List Layout
+kinds =
+    tpmtHa ∷ tpmtSymDef ∷ tpmtKdfScheme ∷ tpmtKeyedhashScheme ∷ tpmtSigScheme ∷ tpmtAsymScheme ∷ tpmtAsymScheme ∷ tpmtAsymScheme
+    ∷ tpmtPublicParms ∷ tpmtSignature ∷ tpmtPublic ∷ tpmtSensitive ∷ tpmsAttest ∷ tpmlPcrSelection
+    ∷ []
+
+-- the numbers of the kinds
+abbrev pub isKind : ℕ → Bool
+isKind k = ltb 0 k && leb k (length kinds)
+
+-- the layout of a kind; no bytes spell a kind that there is not
+unfoldable pub layoutOf : ℕ → Layout
+layoutOf zero = noArm 0
+layoutOf (suc k) = getD kinds k (noArm 0)
+
+-- what a reader of records of any kind answers: a number that is no kind is refused before any byte is looked at
+unfoldable pub readKind : (kind : ℕ) → Reader Parsed
+readKind k src at = cond (isKind k) (read (layoutOf k) src at) (refused (badKind k))

@@ -1,0 +1,15 @@
+// The kinds by number, from 1 on.
+ghost use mathlib.Core.Path.{_≡_};
+ghost use Rattle.format.specs.Kinds.{isKind};
+
+pub const LAST_KIND: u8 = 14;
+
+// Whether there is a kind of that number.
+pub fn is_kind(kind: u8) -> bool
+    ensures { λ r. ⌜ r ≡ isKind kind ⌝ }
+{
+    if kind == 0 {
+        return false;
+    }
+    kind <= LAST_KIND
+}

@@ -1,0 +1,8 @@
+// The codes of the fourteen kinds, their unions' arms, their limits and lists, and numbers as their fields hold them. The kinds themselves are layouts:
+// specs/Kinds.antt.
+pub mod codes;
+pub mod kind;
+pub mod limits;
+pub mod list;
+pub mod registry;
+pub mod uint;

@@ -1,4 +1,0 @@
-pub mod Answers
-pub mod Codes
-pub mod Tables
-pub mod Kinds

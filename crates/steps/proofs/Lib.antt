@@ -1,0 +1,16 @@
+pub mod Spelled
+pub mod Plans
+pub mod Reach
+pub mod Lists
+pub mod Items
+pub mod Runs
+pub mod Walked
+pub mod Search
+pub mod Numbers
+pub mod Leaves
+pub mod Judged
+pub mod Lined
+pub mod Found
+pub mod Marshalled
+pub mod Listed
+pub mod Matches

@@ -1,0 +1,198 @@
+-- Lines, one behind the other, in the form in which the code asks for them. Assumes nothing.
+use Prim.Native.Nat.{ℕ, zero, suc, _+_, _*_, _≤_, _<_}
+use native.Mathlib.Omega.{arith}
+use mathlib.Core.Path.{_≡_, refl, sym, ap, _∙_}
+use mathlib.Core.Bool.{Bool, true, false, cond}
+use mathlib.Core.List.{List, [], _∷_, _++_}
+use lib.ListN.{length, take, drop}
+use lib.Dec.{leb, eqb}
+use borrow.Author.Tests.{le-leb, lt-leb, leb-true}
+use Rattle.wire.specs.declared.fault.Refusal.{Refusal}
+use Rattle.wire.specs.declared.measure.Measure.{Measure}
+use Rattle.wire.specs.declared.span.Span.{Span}
+use Rattle.wire.specs.Answers.{startOf, lenOf, measureAnswer}
+use Rattle.wire.specs.Faults.{noRoom}
+use Rattle.wire.specs.Lines.{Says, Line, line, aNumber, theBytes, spanLine}
+use Rattle.wire.specs.Reading.{found, next}
+use Rattle.wire.specs.Layout.{lengthTo}
+use Rattle.wire.specs.Writing.{cut, spelt}
+use Rattle.wire.specs.Fields.{partOf}
+use Rattle.wire.proofs.Cuts.{cut-length}
+use Rattle.wire.proofs.Steps.{found-same, next-found, when-found}
+use Rattle.wire.proofs.Written.{spelt-found, cut-found}
+use Rattle.text.specs.Puts.{Puts}
+use Rattle.text.specs.declared.line.Word.{Word}
+use Rattle.text.specs.Text.{sayWord, lineText}
+use Rattle.text.proofs.Rows.{puts-same}
+use Rattle.steps.specs.declared.walk.Walk.{Walk}
+use Rattle.steps.specs.Near.{Near}
+use Rattle.steps.specs.Steps.{Step, Plain, Buffer, Items, spellStep, stepLines}
+use Rattle.steps.specs.Walks.{Here, here, refusing, lining, after, needOf, lineIf, forLines, putLine, putLines, toPlace, onTo, linesIf, linesOnce, lineStep}
+use Rattle.steps.proofs.Spelled.{cut-is}
+
+pub putLines-append : (ls ms : List Line) (h : Here) → putLines (ls ++ ms) h ≡ putLines ms (putLines ls h)
+unfolding putLines
+putLines-append [] ms h = refl
+putLines-append (l ∷ ls) ms h = putLines-append ls ms (putLine l h)
+
+module _ (l : Line) (w : Walk) (old : List ℕ) where
+  pub lined : (k : ℕ) (b : Bool) (r : ℕ) (z : Walk) (last : List ℕ) → w .mode ≡ 3 → k ≡ needOf (l .says) → b ≡ leb (w .value + k) (length old) → b ≡ true → Puts (w .value) (lineText l) old r last → z ≡ lining (w .at) r
+      → here z last ≡ putLine l (here w old)
+  unfolding putLine
+  lined k b r z last e is test good p q = rw (e, ← is, ← test, good, q, p .behind, p .holds)
+
+  pub not-lined : (k : ℕ) (b : Bool) (f : Refusal) (z : Walk) → w .mode ≡ 3 → k ≡ needOf (l .says) → b ≡ leb (w .value + k) (length old) → b ≡ false → f ≡ noRoom 0 k → z ≡ refusing f
+      → here z old ≡ putLine l (here w old)
+  unfolding putLine
+  not-lined k b f z e is test bad why q = rw (e, ← is, ← test, bad) (ap (λ x. here x old) (q ∙ ap refusing (why ∙ ap (λ n. noRoom 0 n) is)))
+
+  pub no-lines : (w .mode ≡ 3 → ⊥) → here w old ≡ putLine l (here w old)
+  unfolding putLine
+  no-lines h = by (w .mode) h
+    where
+      by : (m : ℕ) → (m ≡ 3 → ⊥) → here w old ≡ forLines m (here w old) (lineIf (leb (w .value + needOf (l .says)) (length old)) l (here w old))
+      by zero h = refl
+      by (suc zero) h = refl
+      by (suc (suc zero)) h = refl
+      by (suc (suc (suc zero))) h = absurd (h refl)
+      by (suc (suc (suc (suc m)))) h = refl
+
+-- ---- a field that has bytes, judged on the way
+
+module _ (s : Step) (far : ℕ) (src : List ℕ) (w : Walk) (old : List ℕ) (once : lineStep s src w old ≡ linesOnce far s src w old) where
+  pub lines-far : far < w .at → here w old ≡ lineStep s src w old
+  lines-far h = rw (once, lt-leb (w .at) far h)
+
+  module _ (m n : Measure) (e : m ≡ n) (told : (measureAnswer m ≡ after (w .at) (spellStep s src (w .at))) × Near m (w .at)) (h : w .at ≤ far) where
+    lines-by : {g : Here} → g ≡ linesIf (measureAnswer n) (stepLines s src (w .at)) (here w old) → g ≡ lineStep s src w old
+    lines-by p = rw (once, le-leb (w .at) far h, ← told .0, e) p
+
+    pub lines-good : (z r : Walk) (last : List ℕ) (stop : ℕ) → n ≡ Measure.Size stop → here r last ≡ putLines (stepLines s src (w .at)) (here w old) → z ≡ toPlace stop r → here z last ≡ lineStep s src w old
+    lines-good z r last stop is p q = lines-by (ap (λ x. here x last) q ∙ ap (λ g. onTo stop g) p ∙ ap (λ x. linesIf (measureAnswer x) (stepLines s src (w .at)) (here w old)) (sym is))
+
+    pub lines-bad : (z : Walk) (f : Refusal) → n ≡ Measure.No f → z ≡ refusing f → here z old ≡ lineStep s src w old
+    lines-bad z f is q = lines-by (ap (λ x. here x old) q ∙ ap (λ x. linesIf (measureAnswer x) (stepLines s src (w .at)) (here w old)) (sym is))
+
+-- ---- a buffer and a digest that are legal have their bytes in the source
+
+module _ (src : List ℕ) (at : ℕ) {m : Measure} {stop : ℕ} (e : m ≡ Measure.Size stop) where
+  spelled : (s : Step) → measureAnswer m ≡ after at (spellStep s src at) → (xs : List ℕ) × (spellStep s src at ≡ found xs)
+  spelled s told = let (xs, p, q) = next-found (spellStep s src at) _ (sym told ∙ ap measureAnswer e) in (xs, p)
+
+  pub plain-inside : (n : ℕ) (t : Span) → (measureAnswer m ≡ after at (spellStep (Plain n t) src at)) × Near m at → (lenOf t ≤ 0x10001) × (startOf t + lenOf t ≤ length src)
+  unfolding spellStep
+  plain-inside n t told =
+      let (xs, p, r) = next-found (spellStep (Plain n t) src at) _ (sym (told .0) ∙ ap measureAnswer e) in
+      let (b, q) = when-found (eqb (lenOf t) n) _ _ p in
+      let near : stop ≤ at + 0x10001 = rw e at (told .1) in
+      (omega (arith, found-same r, cut-found src (startOf t) (lenOf t) at q .0), cut-is src (startOf t) (lenOf t) at q .1)
+
+  pub buffer-inside : (n : ℕ) (t : Span) → (measureAnswer m ≡ after at (spellStep (Buffer n t) src at)) × Near m at → (lenOf t ≤ 0x10001) × (startOf t + lenOf t ≤ length src)
+  unfolding spellStep
+  buffer-inside n t told =
+      let (xs, p) = spelled (Buffer n t) (told .0) in
+      let (ys, q, r) = next-found (cut src (startOf t) (lenOf t) at) _ p in
+      let (ds, f, g) = next-found (spelt 2 (lengthTo n) (lenOf t) at) _ r in
+      let (fits, allowed, same) = spelt-found 2 (lengthTo n) (lenOf t) at f in
+      (omega (arith, fits), cut-is src (startOf t) (lenOf t) at q .1)
+
+pub part-length : (src : List ℕ) (start len : ℕ) → start + len ≤ length src → length (partOf (cut src start len 0)) ≡ len
+unfolding cut
+part-length src start len h = rw (le-leb (start + len) (length src) h) (cut-length src start len 0 h)
+
+-- the bytes of a span, and how many
+pub span-says : (src : List ℕ) (place : ℕ) (t : Span) {xs : List ℕ} → startOf t + lenOf t ≤ length src → xs ≡ partOf (cut src (startOf t) (lenOf t) 0) → line place (length xs) (theBytes xs) ≡ spanLine place (startOf t) (lenOf t) src
+unfolding cut
+span-says src place t {xs} h p =
+    let same : xs ≡ take (lenOf t) (drop (startOf t) src) = p ∙ rw (le-leb (startOf t + lenOf t) (length src) h) in
+    let size : length xs ≡ lenOf t = ap length same ∙ cut-length src (startOf t) (lenOf t) 0 h in
+    rw size (ap (λ x. line place (lenOf t) (theBytes x)) same)
+
+-- the same, one by one, as a call of it asks
+module _ (src : List ℕ) (at : ℕ) (m : Measure) (stop n : ℕ) (t : Span) where
+  pub plain-small : m ≡ Measure.Size stop → (measureAnswer m ≡ after at (spellStep (Plain n t) src at)) × Near m at → lenOf t ≤ 0x10001
+  plain-small e told = plain-inside src at e n t told .0
+
+  pub plain-within : m ≡ Measure.Size stop → (measureAnswer m ≡ after at (spellStep (Plain n t) src at)) × Near m at → startOf t + lenOf t ≤ length src
+  plain-within e told = plain-inside src at e n t told .1
+
+  pub buffer-small : m ≡ Measure.Size stop → (measureAnswer m ≡ after at (spellStep (Buffer n t) src at)) × Near m at → lenOf t ≤ 0x10001
+  buffer-small e told = buffer-inside src at e n t told .0
+
+  pub buffer-within : m ≡ Measure.Size stop → (measureAnswer m ≡ after at (spellStep (Buffer n t) src at)) × Near m at → startOf t + lenOf t ≤ length src
+  buffer-within e told = buffer-inside src at e n t told .1
+
+-- ---- the lines of a digest and of a buffer
+
+module _ (n : ℕ) (t : Span) (src : List ℕ) (w : Walk) (old : List ℕ) where
+  plain-once : lineStep (Plain n t) src w old ≡ linesOnce 0x1000000 (Plain n t) src w old
+  unfolding lineStep
+  plain-once = refl
+
+  buffer-once : lineStep (Buffer n t) src w old ≡ linesOnce 0x1000000 (Buffer n t) src w old
+  unfolding lineStep
+  buffer-once = refl
+
+  pub plain-lines-far : 0x1000000 < w .at → here w old ≡ lineStep (Plain n t) src w old
+  plain-lines-far h = lines-far (Plain n t) 0x1000000 src w old plain-once h
+
+  pub buffer-lines-far : 0x1000000 < w .at → here w old ≡ lineStep (Buffer n t) src w old
+  buffer-lines-far h = lines-far (Buffer n t) 0x1000000 src w old buffer-once h
+
+  module _ (m : Measure) (z : Walk) where
+    pub plain-lined : (stop : ℕ) (v : Walk) (last : List ℕ) → m ≡ Measure.Size stop → (measureAnswer m ≡ after (w .at) (spellStep (Plain n t) src (w .at))) × Near m (w .at) → w .at ≤ 0x1000000
+        → here v last ≡ putLine (spanLine (w .at) (startOf t) (lenOf t) src) (here w old) → z ≡ toPlace stop v → here z last ≡ lineStep (Plain n t) src w old
+    unfolding putLines
+    plain-lined stop v last e told h p q = lines-good (Plain n t) 0x1000000 src w old plain-once m m refl told h z v last stop e p q
+
+    pub plain-not-lined : (f : Refusal) → m ≡ Measure.No f → (measureAnswer m ≡ after (w .at) (spellStep (Plain n t) src (w .at))) × Near m (w .at) → w .at ≤ 0x1000000 → z ≡ refusing f → here z old ≡ lineStep (Plain n t) src w old
+    plain-not-lined f e told h q = lines-bad (Plain n t) 0x1000000 src w old plain-once m m refl told h z f e q
+
+    pub buffer-lined : (stop k : ℕ) (v u : Walk) (mid last : List ℕ) → m ≡ Measure.Size stop → (measureAnswer m ≡ after (w .at) (spellStep (Buffer n t) src (w .at))) × Near m (w .at) → w .at ≤ 0x1000000 → k ≡ lenOf t
+        → here v mid ≡ putLine (line (w .at) 2 (aNumber k)) (here w old) → here u last ≡ putLine (spanLine (w .at + 2) (startOf t) (lenOf t) src) (here v mid) → z ≡ toPlace stop u → here z last ≡ lineStep (Buffer n t) src w old
+    unfolding putLines
+    buffer-lined stop k v u mid last e told h size p q r =
+        lines-good (Buffer n t) 0x1000000 src w old buffer-once m m refl told h z u last stop e
+        (q ∙ ap (λ g. putLine (spanLine (w .at + 2) (startOf t) (lenOf t) src) g) (p ∙ ap (λ x. putLine (line (w .at) 2 (aNumber x)) (here w old)) size)) r
+
+    pub buffer-not-lined : (f : Refusal) → m ≡ Measure.No f → (measureAnswer m ≡ after (w .at) (spellStep (Buffer n t) src (w .at))) × Near m (w .at) → w .at ≤ 0x1000000 → z ≡ refusing f → here z old ≡ lineStep (Buffer n t) src w old
+    buffer-not-lined f e told h q = lines-bad (Buffer n t) 0x1000000 src w old buffer-once m m refl told h z f e q
+
+-- ---- a line
+
+pub need-word : (k : Word) (n : ℕ) → 70 ≡ needOf (sayWord k n)
+need-word Word.Code n = refl
+need-word Word.Number n = refl
+
+-- where there is room for it
+pub room-there : (b : Bool) (at k n : ℕ) → b ≡ leb (at + k) n → b ≡ true → at + k ≤ n
+room-there b at k n test good = leb-true (at + k) n (sym test ∙ good)
+
+pub bytes-room : (b : Bool) (at k n : ℕ) (t : Span) (src xs : List ℕ) → (lenOf t ≤ 0x10001) × (startOf t + lenOf t ≤ length src) → k ≡ lenOf t → xs ≡ partOf (cut src (startOf t) (lenOf t) 0) → b ≡ leb (at + (50 + 2 * k)) n → b ≡ true
+    → at + (50 + 2 * length xs) ≤ n
+bytes-room b at k n t src xs inside size is test good =
+    let same : length xs ≡ lenOf t = ap length is ∙ part-length src (startOf t) (lenOf t) (inside .1) in
+    omega (arith, leb-true (at + (50 + 2 * k)) n (sym test ∙ good))
+
+pub number-lined : (place k : ℕ) (s : Says) (w : Walk) (old : List ℕ) (b : Bool) (r m : ℕ) (z : Walk) (last : List ℕ) → w .mode ≡ 3 → b ≡ leb (w .value + 70) (length old) → b ≡ true → m ≡ k
+    → Puts (w .value) (lineText (line place m s)) old r last → z ≡ lining (w .at) r → 70 ≡ needOf s → here z last ≡ putLine (line place k s) (here w old)
+number-lined place k s w old b r m z last e test good size p q is =
+    lined (line place k s) w old 70 b r z last e is test good (puts-same (ap (λ x. lineText (line place x s)) size) p) q
+
+pub number-not-lined : (place k : ℕ) (s : Says) (w : Walk) (old : List ℕ) (b : Bool) (f : Refusal) (z : Walk) → w .mode ≡ 3 → b ≡ leb (w .value + 70) (length old) → b ≡ false → f ≡ noRoom 0 70 → z ≡ refusing f → 70 ≡ needOf s
+    → here z old ≡ putLine (line place k s) (here w old)
+number-not-lined place k s w old b f z e test bad why q is = not-lined (line place k s) w old 70 b f z e is test bad why q
+
+-- and that of bytes
+module _ (place : ℕ) (t : Span) (src : List ℕ) (w : Walk) (old : List ℕ) (inside : (lenOf t ≤ 0x10001) × (startOf t + lenOf t ≤ length src)) where
+  need-is : (k : ℕ) → k ≡ lenOf t → 50 + 2 * k ≡ needOf (spanLine place (startOf t) (lenOf t) src .says)
+  need-is k e = let size = cut-length src (startOf t) (lenOf t) 0 (inside .1) in omega arith
+
+  pub bytes-lined : (b : Bool) (r k : ℕ) (z : Walk) (xs last : List ℕ) → w .mode ≡ 3 → k ≡ lenOf t → b ≡ leb (w .value + (50 + 2 * k)) (length old) → b ≡ true → xs ≡ partOf (cut src (startOf t) (lenOf t) 0)
+      → Puts (w .value) (lineText (line place (length xs) (theBytes xs))) old r last → z ≡ lining (w .at) r → here z last ≡ putLine (spanLine place (startOf t) (lenOf t) src) (here w old)
+  bytes-lined b r k z xs last e size test good is p q =
+      lined (spanLine place (startOf t) (lenOf t) src) w old (50 + 2 * k) b r z last e (need-is k size) test good (puts-same (ap lineText (span-says src place t (inside .1) is)) p) q
+
+  pub bytes-not-lined : (b : Bool) (k : ℕ) (f : Refusal) (z : Walk) → w .mode ≡ 3 → k ≡ lenOf t → b ≡ leb (w .value + (50 + 2 * k)) (length old) → b ≡ false → f ≡ noRoom 0 (50 + 2 * k) → z ≡ refusing f
+      → here z old ≡ putLine (spanLine place (startOf t) (lenOf t) src) (here w old)
+  bytes-not-lined b k f z e size test bad why q = not-lined (spanLine place (startOf t) (lenOf t) src) w old (50 + 2 * k) b f z e (need-is k size) test bad why q

@@ -1,0 +1,64 @@
+-- A record that is walked over twice, to judge it and to put it, is written. Assumes nothing.
+use Prim.Native.Nat.{ℕ, zero, suc, _+_, _-_, _*_, _≤_, _<_}
+use native.Mathlib.Nat.{zero-add}
+use native.Mathlib.Omega.{arith}
+use mathlib.Core.Path.{_≡_, refl, sym, ap, _∙_, subst}
+use mathlib.Core.Bool.{Bool, true, false}
+use mathlib.Core.List.{List, [], _∷_, _++_}
+use lib.ListN.{length, take, drop}
+use lib.Dec.{leb}
+use borrow.Author.Tests.{leb-true}
+use Rattle.wire.specs.declared.fault.Refusal.{Refusal}
+use Rattle.wire.specs.declared.measure.Measure.{Measure}
+use Rattle.wire.specs.Answers.{measureAnswer}
+use Rattle.wire.specs.Faults.{refusal, noRoom}
+use Rattle.wire.specs.Layout.{Layout}
+use Rattle.wire.specs.Reading.{Part, Ans, found, refused}
+use Rattle.wire.specs.Writing.{lay}
+use Rattle.wire.specs.Filling.{written, filled}
+use Rattle.steps.specs.Steps.{Step, spell}
+use Rattle.steps.specs.declared.walk.Walk.{Walk}
+use Rattle.steps.specs.Walks.{Here, here, judging, putting, seeking, refusing, finding, after, judged, run, reach, Walks, readyWalk, walkAnswer}
+use Rattle.steps.specs.Writes.{Writes}
+use Rattle.steps.proofs.Leaves.{numbered}
+use Rattle.steps.proofs.Runs.{stays-no, run-judges, run-puts, PutTo}
+
+-- what the second walk leaves, by what the first found
+module _ (ss : List Step) (src old : List ℕ) where
+  refused-walk : (f : Refusal) {h : Here} → h ≡ run ss src (here (refusing f) old) → (walkAnswer (h .walk) ≡ refused f) × (h .out ≡ old)
+  unfolding walkAnswer
+  refused-walk f e = let g = e ∙ stays-no ss src f old in (ap (λ x. walkAnswer (x .walk)) g ∙ ap (λ k. refused (refusal k (f .place) (f .value))) (numbered (f .fault)), ap (λ x. x .out) g)
+
+  put-walk : (bs : List ℕ) {h : Here} → spell ss src 0 ≡ found bs → length bs ≤ length old → h ≡ run ss src (here (putting 0) old) → (walkAnswer (h .walk) ≡ found (length bs)) × (h .out ≡ bs ++ drop (length bs + 0) old)
+  unfolding walkAnswer
+  put-walk bs {h} p room e =
+      let q = run-puts ss src 0 old bs p (omega arith) in
+      let place : q .place ≡ length bs = omega (arith, q .puts .behind) in
+      let there : 0 + length bs ≡ length bs + 0 = omega arith in
+      (ap (λ x. walkAnswer (x .walk)) e ∙ ap walkAnswer (q .put) ∙ ap found place, ap (λ x. x .out) e ∙ q .puts .holds ∙ ap (λ n. bs ++ drop n old) there)
+
+  second : (a : Ans (List ℕ)) {h : Here} → spell ss src 0 ≡ a → h ≡ run ss src (here (readyWalk (judged (after 0 a)) (length old)) old)
+      → (walkAnswer (h .walk) ≡ written 0 a old) × (h .out ≡ filled 0 a old)
+  unfolding readyWalk
+  second (found bs) {h} p e = by (leb (length bs) (length old)) refl
+    where
+      g : h ≡ run ss src (here (readyWalk (judging (length bs)) (length old)) old)
+      g = e ∙ ap (λ n. run ss src (here (readyWalk (judging n) (length old)) old)) (zero-add (length bs))
+
+      all : length old - 0 ≡ length old
+      all = omega arith
+
+      by : (b : Bool) → leb (length bs) (length old) ≡ b → (walkAnswer (h .walk) ≡ written 0 (found bs) old) × (h .out ≡ filled 0 (found bs) old)
+      by true t = rw (ap (λ n. leb (length bs) n) all ∙ t) (put-walk bs p (leb-true (length bs) (length old) t) (rw t at g))
+      by false t = rw (ap (λ n. leb (length bs) n) all ∙ t) (refused-walk (noRoom 0 (length bs)) (rw t at g))
+  second (refused f) p e = refused-walk f e
+
+pub marshalled : (k : ℕ) (l : Layout) (ps ls ms : List Part) (src old mid last : List ℕ) (u w v z : Walk) (r : Measure) → u ≡ judging 0 → Walks k l ps ls src (here u old) (here w mid)
+    → v ≡ readyWalk w (length mid) → Walks k l ps ms src (here v mid) (here z last) → measureAnswer r ≡ walkAnswer z → leb k 24 ≡ true → Writes l ps src old r last
+marshalled k l ps ls ms src old mid last u w v z r begin p ready q told few =
+    let small = leb-true k 24 few in
+    let first = p .goes .same ∙ ap (λ x. run (p .steps) src (here x old)) begin ∙ run-judges (p .steps) src 0 old (omega (arith, p .short)) ∙ ap (λ a. here (judged (after 0 a)) old) (sym (p .plans .lays src 0)) in
+    let same : mid ≡ old = ap (λ h. h .out) first in
+    let begun : v ≡ readyWalk (judged (after 0 (lay l ps src 0))) (length old) = ready ∙ ap (λ h. readyWalk (h .walk) (length (h .out))) first in
+    let (said, left) = second (q .steps) src old (lay l ps src 0) (sym (q .plans .lays src 0)) (q .goes .same ∙ ap (λ x. run (q .steps) src (here v x)) same ∙ ap (λ x. run (q .steps) src (here x old)) begun) in
+    record { answer = told ∙ said; buffer = left; shaped = p .plans .shaped }

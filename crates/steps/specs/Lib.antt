@@ -1,0 +1,5 @@
+pub mod Items
+pub mod Steps
+pub mod Walks
+pub mod Near
+pub mod Writes

@@ -1,0 +1,100 @@
+// List items, by index.
+use crate::list::item_end;
+use crate::list::items_end;
+use crate::list::judge_list;
+use crate::walk::FOUND;
+use crate::walk::Walk;
+use format::list::ListOf;
+use format::uint::Uint32Read;
+use format::uint::uint32;
+use wire::fault::Refusal;
+use wire::measure::Measure;
+use wire::span::Span;
+ghost use mathlib.Core.Path.{_≡_};
+ghost use mathlib.Core.List.{List, _∷_, []};
+ghost use lib.ListN.{length};
+ghost use Rattle.wire.specs.Answers.{spanPart, measureAnswer};
+ghost use Rattle.wire.specs.Reading.{Part, found, read, walk};
+ghost use Rattle.wire.specs.Fields.{partOf, sizeOf, pickField};
+ghost use Rattle.wire.specs.Items.{pickItem, itemOf};
+ghost use Rattle.format.specs.Kinds.{itemLayout, mostItems};
+ghost use Rattle.steps.specs.Items.{itemAnswer, ItemInside};
+ghost use Rattle.steps.specs.Walks.{seekAnswer};
+
+// Where an item stands, or why there is none.
+pub(crate) enum Item {
+    At(Span),
+    No(Refusal),
+}
+
+// Where the item of xs with that index stands, a list of `count` items that was judged.
+fn item_at(which: ListOf, xs: &[u8], count: u32, index: usize) -> Item
+    requires { ⌜ walk (λ s a. read (itemLayout which) s a) count (now xs) 4 ≡ found (length (now xs)) ⌝ }
+    ensures { λ r. ⌜ (itemAnswer r (now (xs .entry)) ≡ pickItem (λ s a. read (itemLayout which) s a) count index index (now (xs .entry)) 4) × ItemInside r (now (xs .entry)) ⌝ }
+{
+    if index >= count as usize {
+        return Item::No(Refusal::no_field(index));
+    }
+    match items_end(which, xs, 4, index as u32) {
+        Measure::Size(start) => match item_end(which, xs, start) {
+            Measure::Size(end) => {
+                let len = end - start;
+                Item::At(Span::new(start, len))
+            }
+            Measure::No(f) => Item::No(f),
+        },
+        Measure::No(f) => Item::No(f),
+    }
+}
+
+// Where the item with that index of the list with that span stands in s. The whole list is judged first, as a writer judges it.
+fn item_in(which: ListOf, list: Span, s: &[u8], index: usize) -> Item
+    ensures { λ r. ⌜ itemAnswer r (now (s .entry)) ≡ itemOf (mostItems which) (itemLayout which) (spanPart list ∷ []) index (now (s .entry)) ⌝ }
+{
+    match judge_list(which, list, s, 0) {
+        Measure::Size(_) => {
+            let xs = list.part(s);
+            match uint32(xs, 0) {
+                Uint32Read::Found(n, _) => match item_at(which, xs, n, index) {
+                    Item::At(t) => {
+                        let start = list.start() + t.start();
+                        Item::At(Span::new(start, t.len()))
+                    }
+                    Item::No(f) => Item::No(f),
+                },
+                Uint32Read::No(f) => Item::No(f),
+            }
+        }
+        Measure::No(f) => Item::No(f),
+    }
+}
+
+impl Walk {
+    // The item with that index of the list that was found, an empty part where there is none.
+    pub fn item<'a>(self, which: ListOf, s: &'a [u8], index: usize) -> &'a [u8]
+        ensures { λ r. ⌜ ((ls : List Part) → pickField ls 0 index (now (s .entry)) ≡ seekAnswer self index (now (s .entry)) → now r ≡ partOf (itemOf (mostItems which) (itemLayout which) ls index (now (s .entry)))) ⌝ }
+    {
+        if self.mode == FOUND {
+            let len = self.value as usize;
+            return match item_in(which, Span::new(self.at, len), s, index) {
+                Item::At(t) => t.part(s),
+                Item::No(_) => &s[0..0],
+            };
+        }
+        &s[0..0]
+    }
+
+    // How long it is, or why there is none.
+    pub fn item_size(self, which: ListOf, s: &[u8], index: usize) -> Measure
+        ensures { λ r. ⌜ ((ls : List Part) → pickField ls 0 index (now (s .entry)) ≡ seekAnswer self index (now (s .entry)) → measureAnswer r ≡ sizeOf (itemOf (mostItems which) (itemLayout which) ls index (now (s .entry)))) ⌝ }
+    {
+        if self.mode == FOUND {
+            let len = self.value as usize;
+            return match item_in(which, Span::new(self.at, len), s, index) {
+                Item::At(t) => t.measure(s, 0),
+                Item::No(f) => Measure::No(f),
+            };
+        }
+        Measure::No(Refusal::no_field(index))
+    }
+}
