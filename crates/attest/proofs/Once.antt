@@ -4,7 +4,8 @@ use mathlib.Core.List.{List, [], _∷_}
 use Rattle.wire.proofs.Once.{Injective, Once, number-once, span-once, both, fields, holds, union, answers}
 use Rattle.format.specs.Codes.{attestNv, attestCommandAudit, attestSessionAudit, attestCertify, attestQuote, attestTime, attestCreation, attestNvDigest}
 use Rattle.format.proofs.Once.{alg-once, attestation-once}
-use Rattle.schemes.proofs.Once.{pcr-selections-once}
+use Rattle.attest.specs.declared.list.TpmlPcrSelection.{TpmlPcrSelection}
+use Rattle.attest.specs.declared.list.TpmlPcrSelectionRead.{TpmlPcrSelectionRead}
 use Rattle.attest.specs.declared.tpms.TpmsClockInfo.{TpmsClockInfo}
 use Rattle.attest.specs.declared.tpms.TpmsTimeInfo.{TpmsTimeInfo}
 use Rattle.attest.specs.declared.tpms.TpmsCertifyInfo.{TpmsCertifyInfo}
@@ -29,8 +30,16 @@ use Rattle.attest.specs.declared.tpmu.TpmuAttest.{TpmuAttest}
 use Rattle.attest.specs.declared.tpmu.TpmuAttestRead.{TpmuAttestRead}
 use Rattle.attest.specs.declared.attestation.TpmsAttest.{TpmsAttest}
 use Rattle.attest.specs.declared.attestation.TpmsAttestRead.{TpmsAttestRead}
-use Rattle.attest.specs.Parts.{tpmsClockInfoParts, tpmsTimeInfoParts, tpmsCertifyInfoParts, tpmsCreationInfoParts, tpmsQuoteInfoParts, tpmsCommandAuditInfoParts, tpmsSessionAuditInfoParts, tpmsTimeAttestInfoParts, tpmsNvCertifyInfoParts, tpmsNvDigestCertifyInfoParts, tpmuAttestParts, tpmsAttestParts}
-use Rattle.attest.specs.Answers.{tpmsClockInfoAnswer, tpmsTimeInfoAnswer, tpmsCertifyInfoAnswer, tpmsCreationInfoAnswer, tpmsQuoteInfoAnswer, tpmsCommandAuditInfoAnswer, tpmsSessionAuditInfoAnswer, tpmsTimeAttestInfoAnswer, tpmsNvCertifyInfoAnswer, tpmsNvDigestCertifyInfoAnswer, tpmuAttestAnswer, tpmsAttestAnswer}
+use Rattle.attest.specs.Parts.{tpmlPcrSelectionParts, tpmsClockInfoParts, tpmsTimeInfoParts, tpmsCertifyInfoParts, tpmsCreationInfoParts, tpmsQuoteInfoParts, tpmsCommandAuditInfoParts, tpmsSessionAuditInfoParts, tpmsTimeAttestInfoParts, tpmsNvCertifyInfoParts, tpmsNvDigestCertifyInfoParts, tpmuAttestParts, tpmsAttestParts}
+use Rattle.attest.specs.Answers.{tpmlPcrSelectionAnswer, tpmsClockInfoAnswer, tpmsTimeInfoAnswer, tpmsCertifyInfoAnswer, tpmsCreationInfoAnswer, tpmsQuoteInfoAnswer, tpmsCommandAuditInfoAnswer, tpmsSessionAuditInfoAnswer, tpmsTimeAttestInfoAnswer, tpmsNvCertifyInfoAnswer, tpmsNvDigestCertifyInfoAnswer, tpmuAttestAnswer, tpmsAttestAnswer}
+
+-- ---- kind 14
+
+pub pcr-selections-once : Once tpmlPcrSelectionParts
+pcr-selections-once = fields (λ s. s .items) (λ f. record { items = f }) (λ s. refl) span-once
+
+pub pcr-selections-answer-once : Injective tpmlPcrSelectionAnswer
+pcr-selections-answer-once = answers pcr-selections-once TpmlPcrSelectionRead.Found TpmlPcrSelectionRead.No tpmlPcrSelectionAnswer (λ back. elim [ TpmlPcrSelectionRead.Found x e ↦ back x e | TpmlPcrSelectionRead.No f ↦ refl ])
 
 -- ---- structures
 

@@ -1,5 +1,6 @@
 -- What the answers of the readers mean: the parts of the record that was found and the place where it ends, or the refusal. Assumes nothing.
 use Rattle.wire.specs.Reading.{Ans, refused, Parsed, parsed}
+use Rattle.attest.specs.declared.list.TpmlPcrSelectionRead.{TpmlPcrSelectionRead}
 use Rattle.attest.specs.declared.tpms.TpmsClockInfoRead.{TpmsClockInfoRead}
 use Rattle.attest.specs.declared.tpms.TpmsTimeInfoRead.{TpmsTimeInfoRead}
 use Rattle.attest.specs.declared.tpms.TpmsCertifyInfoRead.{TpmsCertifyInfoRead}
@@ -12,7 +13,11 @@ use Rattle.attest.specs.declared.tpms.TpmsNvCertifyInfoRead.{TpmsNvCerti
 use Rattle.attest.specs.declared.tpms.TpmsNvDigestCertifyInfoRead.{TpmsNvDigestCertifyInfoRead}
 use Rattle.attest.specs.declared.tpmu.TpmuAttestRead.{TpmuAttestRead}
 use Rattle.attest.specs.declared.attestation.TpmsAttestRead.{TpmsAttestRead}
-use Rattle.attest.specs.Parts.{tpmsClockInfoParts, tpmsTimeInfoParts, tpmsCertifyInfoParts, tpmsCreationInfoParts, tpmsQuoteInfoParts, tpmsCommandAuditInfoParts, tpmsSessionAuditInfoParts, tpmsTimeAttestInfoParts, tpmsNvCertifyInfoParts, tpmsNvDigestCertifyInfoParts, tpmuAttestParts, tpmsAttestParts}
+use Rattle.attest.specs.Parts.{tpmlPcrSelectionParts, tpmsClockInfoParts, tpmsTimeInfoParts, tpmsCertifyInfoParts, tpmsCreationInfoParts, tpmsQuoteInfoParts, tpmsCommandAuditInfoParts, tpmsSessionAuditInfoParts, tpmsTimeAttestInfoParts, tpmsNvCertifyInfoParts, tpmsNvDigestCertifyInfoParts, tpmuAttestParts, tpmsAttestParts}
+
+abbrev pub tpmlPcrSelectionAnswer : TpmlPcrSelectionRead → Ans Parsed
+tpmlPcrSelectionAnswer (TpmlPcrSelectionRead.Found x e) = parsed (tpmlPcrSelectionParts x) e
+tpmlPcrSelectionAnswer (TpmlPcrSelectionRead.No f) = refused f
 
 abbrev pub tpmsClockInfoAnswer : TpmsClockInfoRead → Ans Parsed
 tpmsClockInfoAnswer (TpmsClockInfoRead.Found x e) = parsed (tpmsClockInfoParts x) e

@@ -3,7 +3,7 @@ use mathlib.Core.List.{List, [], _∷_, _++_}
 use Rattle.wire.specs.Answers.{spanPart}
 use Rattle.wire.specs.Reading.{Part, num, tag}
 use Rattle.format.specs.Codes.{attestNv, attestCommandAudit, attestSessionAudit, attestCertify, attestQuote, attestTime, attestCreation, attestNvDigest}
-use Rattle.schemes.specs.Parts.{tpmlPcrSelectionParts}
+use Rattle.attest.specs.declared.list.TpmlPcrSelection.{TpmlPcrSelection}
 use Rattle.attest.specs.declared.tpms.TpmsClockInfo.{TpmsClockInfo}
 use Rattle.attest.specs.declared.tpms.TpmsTimeInfo.{TpmsTimeInfo}
 use Rattle.attest.specs.declared.tpms.TpmsCertifyInfo.{TpmsCertifyInfo}
@@ -16,6 +16,12 @@ use Rattle.attest.specs.declared.tpms.TpmsNvCertifyInfo.{TpmsNvCertifyIn
 use Rattle.attest.specs.declared.tpms.TpmsNvDigestCertifyInfo.{TpmsNvDigestCertifyInfo}
 use Rattle.attest.specs.declared.tpmu.TpmuAttest.{TpmuAttest}
 use Rattle.attest.specs.declared.attestation.TpmsAttest.{TpmsAttest}
+
+-- ---- kind 14
+
+-- the list is one part
+abbrev pub tpmlPcrSelectionParts : TpmlPcrSelection → List Part
+tpmlPcrSelectionParts l = spanPart (l .items) ∷ []
 
 -- ---- structures
 
@@ -60,6 +66,17 @@ tpmuAttestParts (TpmuAttest.SessionAudit i) = tag attestSessionAudit ∷ tpmsSes
 tpmuAttestParts (TpmuAttest.Time i) = tag attestTime ∷ tpmsTimeAttestInfoParts i
 tpmuAttestParts (TpmuAttest.Nv i) = tag attestNv ∷ tpmsNvCertifyInfoParts i
 tpmuAttestParts (TpmuAttest.NvDigest i) = tag attestNvDigest ∷ tpmsNvDigestCertifyInfoParts i
+
+-- the list that the union holds, by the arm that it holds: a quote has one
+abbrev pub tpmuAttestLists : TpmuAttest → List Part
+tpmuAttestLists (TpmuAttest.Certify i) = []
+tpmuAttestLists (TpmuAttest.Creation i) = []
+tpmuAttestLists (TpmuAttest.Quote i) = tpmlPcrSelectionParts (i .«pcr_select»)
+tpmuAttestLists (TpmuAttest.CommandAudit i) = []
+tpmuAttestLists (TpmuAttest.SessionAudit i) = []
+tpmuAttestLists (TpmuAttest.Time i) = []
+tpmuAttestLists (TpmuAttest.Nv i) = []
+tpmuAttestLists (TpmuAttest.NvDigest i) = []
 
 -- ---- kind 13
 

@@ -1,4 +1,4 @@
-// Kind 13, the attestation: TPMS_ATTEST over TPMU_ATTEST.
+// Kind 13, the attestation: TPMS_ATTEST over TPMU_ATTEST. It has the calls that a kind has (ciphers, tpmt.rt).
 use crate::tpms::TpmsClockInfo;
 use crate::tpms::TpmsClockInfoRead;
 use crate::tpmu::TpmuAttest;
@@ -6,21 +6,34 @@ use crate::tpmu::TpmuAttestRead;
 use format::codes::TpmSt;
 use format::codes::TpmStRead;
 use format::limits;
+use format::list::ListOf;
 use format::uint::Uint32Read;
 use format::uint::magic_number;
+use steps::walk::Walk;
+use steps::walk::judging;
+use steps::walk::list_seeking;
+use steps::walk::seeking;
 use wire::fault::Refusal;
+use wire::measure::Measure;
 use wire::read::NumberRead;
 use wire::read::SpanRead;
 use wire::read::buffer;
+use wire::read::nothing_behind;
 use wire::read::number;
 use wire::span::Span;
 use wire::width::Width;
 ghost use mathlib.Core.Path.{_≡_};
-ghost use Rattle.wire.specs.Answers.{spanPart};
+ghost use Rattle.wire.specs.Answers.{spanPart, measureAnswer};
 ghost use Rattle.wire.specs.Layout.{number, free, _then_};
-ghost use Rattle.wire.specs.Reading.{num, also, read};
-ghost use Rattle.format.specs.Kinds.{tpmsAttest, tpmuAttest, tpmsClockInfo};
+ghost use Rattle.wire.specs.Reading.{num, also, read, readWhole};
+ghost use Rattle.wire.specs.Fields.{partOf, sizeOf, fieldOf};
+ghost use Rattle.wire.specs.Items.{itemOf};
+ghost use Rattle.format.specs.Kinds.{tpmsAttest, tpmuAttest, tpmsClockInfo, itemLayout, mostItems};
+ghost use Rattle.format.specs.declared.list.ListOf.the-variants.{PcrSelection};
+ghost use Rattle.steps.specs.Walks.{here, Walks};
+ghost use Rattle.steps.specs.Writes.{Writes};
 ghost use Rattle.attest.specs.Answers.{tpmsAttestAnswer};
+ghost use Rattle.attest.specs.Parts.{tpmsAttestParts, tpmuAttestLists};
 
 pub struct TpmsAttest {
     pub magic: u32,
@@ -119,5 +132,72 @@ impl TpmsAttest {
             },
             end,
         )
+    }
+
+    pub fn whole(s: &[u8], at: usize) -> TpmsAttestRead
+        ensures { λ r. ⌜ tpmsAttestAnswer r ≡ readWhole tpmsAttest (now (s .entry)) at ⌝ }
+    {
+        match TpmsAttest::unmarshal(s, at) {
+            TpmsAttestRead::Found(x, e) => match nothing_behind(s, e) {
+                Measure::Size(_) => TpmsAttestRead::Found(x, e),
+                Measure::No(f) => TpmsAttestRead::No(f),
+            },
+            TpmsAttestRead::No(f) => TpmsAttestRead::No(f),
+        }
+    }
+
+    pub fn walk(self, w: Walk, src: &[u8], out: &mut [u8]) -> Walk
+        ensures { λ r. ⌜ Walks 16 tpmsAttest (tpmsAttestParts self) (tpmuAttestLists (self .attested)) (now (src .entry)) (here w (now (out .entry))) (here r (now (out .exit))) ⌝ }
+    {
+        let magic = self.magic;
+        let attest_type = self.attest_type;
+        let qualified_signer = self.qualified_signer;
+        let extra_data = self.extra_data;
+        let clock_info = self.clock_info;
+        let firmware_version = self.firmware_version;
+        let attested = self.attested;
+        let v = w.magic(magic, out)
+            .attestation(attest_type, out)
+            .buffer(limits::MAX_NAME_SIZE, qualified_signer, src, out)
+            .buffer(limits::MAX_DATA_SIZE, extra_data, src, out);
+        let u = clock_info.walk(v, src, out);
+        attested.walk_tagged(attest_type, u.uint64(firmware_version, out), src, out)
+    }
+
+    pub fn marshal(self, src: &[u8], out: &mut [u8]) -> Measure
+        ensures { λ r. ⌜ Writes tpmsAttest (tpmsAttestParts self) (now (src .entry)) (now (out .entry)) r (now (out .exit)) ⌝ }
+    {
+        let judged = self.walk(judging(0), src, out);
+        self.walk(judged.ready(out.len()), src, out).answer()
+    }
+
+    pub fn field<'a>(self, s: &'a [u8], index: usize) -> &'a [u8]
+        ensures { λ r. ⌜ now r ≡ partOf (fieldOf (tpmsAttestParts self) index (now (s .entry))) ⌝ }
+    {
+        let mut none = [0u8; 1];
+        self.walk(seeking(index), s, &mut none).part(s)
+    }
+
+    pub fn field_size(self, s: &[u8], index: usize) -> Measure
+        ensures { λ r. ⌜ measureAnswer r ≡ sizeOf (fieldOf (tpmsAttestParts self) index (now (s .entry))) ⌝ }
+    {
+        let mut none = [0u8; 1];
+        self.walk(seeking(index), s, &mut none).size(s, index)
+    }
+
+    pub fn item<'a>(self, s: &'a [u8], index: usize) -> &'a [u8]
+        ensures { λ r. ⌜ now r ≡ partOf (itemOf (mostItems PcrSelection) (itemLayout PcrSelection) (tpmuAttestLists (self .attested)) index (now (s .entry))) ⌝ }
+    {
+        let mut none = [0u8; 1];
+        self.walk(list_seeking(), s, &mut none)
+            .item(ListOf::PcrSelection, s, index)
+    }
+
+    pub fn item_size(self, s: &[u8], index: usize) -> Measure
+        ensures { λ r. ⌜ measureAnswer r ≡ sizeOf (itemOf (mostItems PcrSelection) (itemLayout PcrSelection) (tpmuAttestLists (self .attested)) index (now (s .entry))) ⌝ }
+    {
+        let mut none = [0u8; 1];
+        self.walk(list_seeking(), s, &mut none)
+            .item_size(ListOf::PcrSelection, s, index)
     }
 }

@@ -1,4 +1,6 @@
 // The structures that an attestation holds.
+use crate::list::TpmlPcrSelection;
+use crate::list::TpmlPcrSelectionRead;
 use format::codes::TpmAlgId;
 use format::codes::TpmAlgIdRead;
 use format::limits;
@@ -8,8 +10,7 @@ use format::uint::Uint32Read;
 use format::uint::uint16;
 use format::uint::uint32;
 use format::uint::yes_no;
-use schemes::list::TpmlPcrSelection;
-use schemes::list::TpmlPcrSelectionRead;
+use steps::walk::Walk;
 use wire::fault::Refusal;
 use wire::read::NumberRead;
 use wire::read::SpanRead;
@@ -18,9 +19,12 @@ use wire::read::number;
 use wire::span::Span;
 use wire::width::Width;
 ghost use mathlib.Core.Path.{_≡_};
+ghost use mathlib.Core.List.{[]};
 ghost use Rattle.wire.specs.Reading.{read};
 ghost use Rattle.format.specs.Kinds.{tpmsClockInfo, tpmsTimeInfo, tpmsCertifyInfo, tpmsCreationInfo, tpmsQuoteInfo, tpmsCommandAuditInfo, tpmsSessionAuditInfo, tpmsTimeAttestInfo, tpmsNvCertifyInfo, tpmsNvDigestCertifyInfo};
+ghost use Rattle.steps.specs.Walks.{here, Walks};
 ghost use Rattle.attest.specs.Answers.{tpmsClockInfoAnswer, tpmsTimeInfoAnswer, tpmsCertifyInfoAnswer, tpmsCreationInfoAnswer, tpmsQuoteInfoAnswer, tpmsCommandAuditInfoAnswer, tpmsSessionAuditInfoAnswer, tpmsTimeAttestInfoAnswer, tpmsNvCertifyInfoAnswer, tpmsNvDigestCertifyInfoAnswer};
+ghost use Rattle.attest.specs.Parts.{tpmsClockInfoParts, tpmsTimeInfoParts, tpmsCertifyInfoParts, tpmsCreationInfoParts, tpmsQuoteInfoParts, tpmsCommandAuditInfoParts, tpmsSessionAuditInfoParts, tpmsTimeAttestInfoParts, tpmsNvCertifyInfoParts, tpmsNvDigestCertifyInfoParts, tpmlPcrSelectionParts};
 
 pub struct TpmsClockInfo {
     pub clock: u64,
@@ -171,6 +175,19 @@ impl TpmsClockInfo {
             end,
         )
     }
+
+    pub fn walk(self, w: Walk, src: &[u8], out: &mut [u8]) -> Walk
+        ensures { λ r. ⌜ Walks 4 tpmsClockInfo (tpmsClockInfoParts self) [] (now (src .entry)) (here w (now (out .entry))) (here r (now (out .exit))) ⌝ }
+    {
+        let clock = self.clock;
+        let reset_count = self.reset_count;
+        let restart_count = self.restart_count;
+        let safe = self.safe;
+        w.uint64(clock, out)
+            .uint32(reset_count, out)
+            .uint32(restart_count, out)
+            .yes_no(safe, out)
+    }
 }
 
 impl TpmsTimeInfo {
@@ -200,6 +217,14 @@ impl TpmsTimeInfo {
             },
             end,
         )
+    }
+
+    pub fn walk(self, w: Walk, src: &[u8], out: &mut [u8]) -> Walk
+        ensures { λ r. ⌜ Walks 5 tpmsTimeInfo (tpmsTimeInfoParts self) [] (now (src .entry)) (here w (now (out .entry))) (here r (now (out .exit))) ⌝ }
+    {
+        let time = self.time;
+        let clock_info = self.clock_info;
+        clock_info.walk(w.uint64(time, out), src, out)
     }
 }
 
@@ -231,6 +256,15 @@ impl TpmsCertifyInfo {
             end,
         )
     }
+
+    pub fn walk(self, w: Walk, src: &[u8], out: &mut [u8]) -> Walk
+        ensures { λ r. ⌜ Walks 2 tpmsCertifyInfo (tpmsCertifyInfoParts self) [] (now (src .entry)) (here w (now (out .entry))) (here r (now (out .exit))) ⌝ }
+    {
+        let name = self.name;
+        let qualified_name = self.qualified_name;
+        w.buffer(limits::MAX_NAME_SIZE, name, src, out)
+            .buffer(limits::MAX_NAME_SIZE, qualified_name, src, out)
+    }
 }
 
 impl TpmsCreationInfo {
@@ -261,6 +295,15 @@ impl TpmsCreationInfo {
             end,
         )
     }
+
+    pub fn walk(self, w: Walk, src: &[u8], out: &mut [u8]) -> Walk
+        ensures { λ r. ⌜ Walks 2 tpmsCreationInfo (tpmsCreationInfoParts self) [] (now (src .entry)) (here w (now (out .entry))) (here r (now (out .exit))) ⌝ }
+    {
+        let object_name = self.object_name;
+        let creation_hash = self.creation_hash;
+        w.buffer(limits::MAX_NAME_SIZE, object_name, src, out)
+            .buffer(limits::MAX_DIGEST_SIZE, creation_hash, src, out)
+    }
 }
 
 impl TpmsQuoteInfo {
@@ -290,6 +333,15 @@ impl TpmsQuoteInfo {
             },
             end,
         )
+    }
+
+    pub fn walk(self, w: Walk, src: &[u8], out: &mut [u8]) -> Walk
+        ensures { λ r. ⌜ Walks 2 tpmsQuoteInfo (tpmsQuoteInfoParts self) (tpmlPcrSelectionParts (self .«pcr_select»)) (now (src .entry)) (here w (now (out .entry))) (here r (now (out .exit))) ⌝ }
+    {
+        let pcr_select = self.pcr_select;
+        let pcr_digest = self.pcr_digest;
+        let v = pcr_select.walk(w, src, out);
+        v.buffer(limits::MAX_DIGEST_SIZE, pcr_digest, src, out)
     }
 }
 
@@ -337,6 +389,19 @@ impl TpmsCommandAuditInfo {
             end,
         )
     }
+
+    pub fn walk(self, w: Walk, src: &[u8], out: &mut [u8]) -> Walk
+        ensures { λ r. ⌜ Walks 4 tpmsCommandAuditInfo (tpmsCommandAuditInfoParts self) [] (now (src .entry)) (here w (now (out .entry))) (here r (now (out .exit))) ⌝ }
+    {
+        let audit_counter = self.audit_counter;
+        let digest_alg = self.digest_alg;
+        let audit_digest = self.audit_digest;
+        let command_digest = self.command_digest;
+        w.uint64(audit_counter, out)
+            .algorithm(digest_alg, out)
+            .buffer(limits::MAX_DIGEST_SIZE, audit_digest, src, out)
+            .buffer(limits::MAX_DIGEST_SIZE, command_digest, src, out)
+    }
 }
 
 impl TpmsSessionAuditInfo {
@@ -367,6 +432,15 @@ impl TpmsSessionAuditInfo {
             end,
         )
     }
+
+    pub fn walk(self, w: Walk, src: &[u8], out: &mut [u8]) -> Walk
+        ensures { λ r. ⌜ Walks 2 tpmsSessionAuditInfo (tpmsSessionAuditInfoParts self) [] (now (src .entry)) (here w (now (out .entry))) (here r (now (out .exit))) ⌝ }
+    {
+        let exclusive_session = self.exclusive_session;
+        let session_digest = self.session_digest;
+        w.yes_no(exclusive_session, out)
+            .buffer(limits::MAX_DIGEST_SIZE, session_digest, src, out)
+    }
 }
 
 impl TpmsTimeAttestInfo {
@@ -396,6 +470,15 @@ impl TpmsTimeAttestInfo {
             },
             end,
         )
+    }
+
+    pub fn walk(self, w: Walk, src: &[u8], out: &mut [u8]) -> Walk
+        ensures { λ r. ⌜ Walks 6 tpmsTimeAttestInfo (tpmsTimeAttestInfoParts self) [] (now (src .entry)) (here w (now (out .entry))) (here r (now (out .exit))) ⌝ }
+    {
+        let time = self.time;
+        let firmware_version = self.firmware_version;
+        let v = time.walk(w, src, out);
+        v.uint64(firmware_version, out)
     }
 }
 
@@ -435,6 +518,17 @@ impl TpmsNvCertifyInfo {
             end,
         )
     }
+
+    pub fn walk(self, w: Walk, src: &[u8], out: &mut [u8]) -> Walk
+        ensures { λ r. ⌜ Walks 3 tpmsNvCertifyInfo (tpmsNvCertifyInfoParts self) [] (now (src .entry)) (here w (now (out .entry))) (here r (now (out .exit))) ⌝ }
+    {
+        let index_name = self.index_name;
+        let offset = self.offset;
+        let nv_contents = self.nv_contents;
+        w.buffer(limits::MAX_NAME_SIZE, index_name, src, out)
+            .uint16(offset, out)
+            .buffer(limits::MAX_NV_BUFFER_SIZE, nv_contents, src, out)
+    }
 }
 
 impl TpmsNvDigestCertifyInfo {
@@ -464,5 +558,14 @@ impl TpmsNvDigestCertifyInfo {
             },
             end,
         )
+    }
+
+    pub fn walk(self, w: Walk, src: &[u8], out: &mut [u8]) -> Walk
+        ensures { λ r. ⌜ Walks 2 tpmsNvDigestCertifyInfo (tpmsNvDigestCertifyInfoParts self) [] (now (src .entry)) (here w (now (out .entry))) (here r (now (out .exit))) ⌝ }
+    {
+        let index_name = self.index_name;
+        let nv_digest = self.nv_digest;
+        w.buffer(limits::MAX_NAME_SIZE, index_name, src, out)
+            .buffer(limits::MAX_DIGEST_SIZE, nv_digest, src, out)
     }
 }

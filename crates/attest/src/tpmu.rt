@@ -17,13 +17,15 @@ use crate::tpms::TpmsTimeAttestInfo;
 use crate::tpms::TpmsTimeAttestInfoRead;
 use format::codes::TpmSt;
 use format::registry;
+use steps::walk::Walk;
 use wire::fault::Refusal;
 use wire::widen::wide;
 ghost use mathlib.Core.Path.{_≡_};
 ghost use Rattle.wire.specs.Reading.{read};
 ghost use Rattle.wire.specs.Unions.{isArm, held};
 ghost use Rattle.format.specs.Kinds.{tpmuAttestArm, tpmuAttest};
-ghost use Rattle.attest.specs.Parts.{tpmuAttestParts};
+ghost use Rattle.steps.specs.Walks.{here, Walks};
+ghost use Rattle.attest.specs.Parts.{tpmuAttestParts, tpmuAttestLists};
 ghost use Rattle.attest.specs.Answers.{tpmuAttestAnswer};
 
 pub enum TpmuAttest {
@@ -106,16 +108,32 @@ impl TpmuAttest {
     pub fn matches_tag(self, tag: TpmSt) -> bool
         ensures { λ r. ⌜ r ≡ isArm (tpmuAttestArm (tag .0)) (held (tpmuAttestParts self)) ⌝ }
     {
-        let chosen = tag.attest_arm();
+        let v = tag.0;
         match self {
-            TpmuAttest::Certify(_) => chosen.is(registry::ATTEST_CERTIFY),
-            TpmuAttest::Creation(_) => chosen.is(registry::ATTEST_CREATION),
-            TpmuAttest::Quote(_) => chosen.is(registry::ATTEST_QUOTE),
-            TpmuAttest::CommandAudit(_) => chosen.is(registry::ATTEST_COMMAND_AUDIT),
-            TpmuAttest::SessionAudit(_) => chosen.is(registry::ATTEST_SESSION_AUDIT),
-            TpmuAttest::Time(_) => chosen.is(registry::ATTEST_TIME),
-            TpmuAttest::Nv(_) => chosen.is(registry::ATTEST_NV),
-            TpmuAttest::NvDigest(_) => chosen.is(registry::ATTEST_NV_DIGEST),
+            TpmuAttest::Certify(_) => v == registry::ATTEST_CERTIFY,
+            TpmuAttest::Creation(_) => v == registry::ATTEST_CREATION,
+            TpmuAttest::Quote(_) => v == registry::ATTEST_QUOTE,
+            TpmuAttest::CommandAudit(_) => v == registry::ATTEST_COMMAND_AUDIT,
+            TpmuAttest::SessionAudit(_) => v == registry::ATTEST_SESSION_AUDIT,
+            TpmuAttest::Time(_) => v == registry::ATTEST_TIME,
+            TpmuAttest::Nv(_) => v == registry::ATTEST_NV,
+            TpmuAttest::NvDigest(_) => v == registry::ATTEST_NV_DIGEST,
+        }
+    }
+
+    pub fn walk_tagged(self, tag: TpmSt, w: Walk, src: &[u8], out: &mut [u8]) -> Walk
+        ensures { λ r. ⌜ Walks 7 (tpmuAttest (tag .0)) (tpmuAttestParts self) (tpmuAttestLists self) (now (src .entry)) (here w (now (out .entry))) (here r (now (out .exit))) ⌝ }
+    {
+        let v = w.due(tag.0, tag.attest_arm(), self.matches_tag(tag));
+        match self {
+            TpmuAttest::Certify(x) => x.walk(v, src, out),
+            TpmuAttest::Creation(x) => x.walk(v, src, out),
+            TpmuAttest::Quote(x) => x.walk(v, src, out),
+            TpmuAttest::CommandAudit(x) => x.walk(v, src, out),
+            TpmuAttest::SessionAudit(x) => x.walk(v, src, out),
+            TpmuAttest::Time(x) => x.walk(v, src, out),
+            TpmuAttest::Nv(x) => x.walk(v, src, out),
+            TpmuAttest::NvDigest(x) => x.walk(v, src, out),
         }
     }
 }

@@ -1,13 +1,10 @@
 // Lists every deposit on standard input: two bytes that say how long it is, then the deposit, and then the next. Behind the listing of a
 // record that was read comes the line `again`, with the bytes that it is written as.
-mod again;
-
-use again::written_again;
 use format::uint::Uint16Read;
 use format::uint::uint16;
 use listing::deposit::LISTING_ROOM;
 use listing::deposit::list_deposit;
-use records::kind::record_end;
+use records::walk::copy;
 use text::put::put_hex;
 use wire::measure::Measure;
 
@@ -38,15 +35,12 @@ fn write_again_line(bytes: &[u8], out: &mut [u8]) {
 }
 
 fn write_again(kind: u8, bytes: &[u8], again: &mut [u8], out: &mut [u8]) {
-    match record_end(kind, bytes, 0) {
-        Measure::Size(_) => match written_again(kind, bytes, again) {
-            Measure::Size(n) => {
-                if n <= again.len() {
-                    write_again_line(&again[..n], out);
-                }
+    match copy(kind, bytes, again) {
+        Measure::Size(n) => {
+            if n <= again.len() {
+                write_again_line(&again[..n], out);
             }
-            Measure::No(_) => {}
-        },
+        }
         Measure::No(_) => {}
     }
 }

@@ -1,20 +1,16 @@
 -- The numbers of the kinds. Assumes nothing.
-use Prim.Native.Nat.{ℕ, _<_, _≤_}
+use Prim.Native.Nat.{ℕ, _<_}
 use mathlib.Core.Path.{_≡_, refl}
 use mathlib.Core.Bool.{Bool, true, false, _&&_}
 use lib.ListN.{length}
 use lib.Dec.{leb, ltb}
-use borrow.Author.Tests.{le-leb, lt-leb, lt-ltb, ltb-true}
+use borrow.Author.Tests.{lt-leb, ltb-true}
 use Rattle.format.specs.Kinds.{kinds, isKind}
 
 -- the last is 14
 pub kinds-14 : length kinds ≡ 14
 unfolding kinds
 kinds-14 = refl
-
--- a number from 1 to 14 is a kind's
-pub is-kind : (k : ℕ) → 0 < k → k ≤ 14 → isKind k ≡ true
-is-kind k some most = rw (kinds-14, lt-ltb 0 k some, le-leb k 14 most)
 
 -- 0, and every number past 14, is none
 pub outside : (k : ℕ) → (0 < k → 14 < k) → isKind k ≡ false

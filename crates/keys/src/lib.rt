@@ -1,4 +1,4 @@
-// Keys and signatures: kinds 9 to 12. Files and names are the Rust crate's.
+// Public and sensitive areas: kinds 11 and 12. Files and names are the Rust crate's.
 pub mod tpms;
 pub mod tpmt;
 pub mod tpmu;

@@ -1,28 +1,37 @@
-// Kinds 9 to 12: parameters, signatures, public and sensitive areas.
+// Kinds 11 and 12: public and sensitive areas. Each has the calls that a kind has (ciphers, tpmt.rt).
 use crate::tpmu::TpmuPublicId;
 use crate::tpmu::TpmuPublicIdRead;
-use crate::tpmu::TpmuPublicParms;
-use crate::tpmu::TpmuPublicParmsRead;
 use crate::tpmu::TpmuSensitiveComposite;
 use crate::tpmu::TpmuSensitiveCompositeRead;
-use crate::tpmu::TpmuSignature;
-use crate::tpmu::TpmuSignatureRead;
 use format::codes::TpmAlgId;
 use format::codes::TpmAlgIdRead;
 use format::limits;
 use format::uint::Uint32Read;
 use format::uint::uint32;
+use parameters::tpmu::TpmuPublicParms;
+use parameters::tpmu::TpmuPublicParmsRead;
+use steps::walk::Walk;
+use steps::walk::judging;
+use steps::walk::seeking;
 use wire::fault::Refusal;
+use wire::measure::Measure;
 use wire::read::SpanRead;
 use wire::read::buffer;
+use wire::read::nothing_behind;
 use wire::span::Span;
 use wire::width::Width;
 ghost use mathlib.Core.Path.{_≡_};
-ghost use Rattle.wire.specs.Answers.{spanPart};
+ghost use mathlib.Core.List.{[]};
+ghost use Rattle.wire.specs.Answers.{spanPart, measureAnswer};
 ghost use Rattle.wire.specs.Layout.{_then_};
-ghost use Rattle.wire.specs.Reading.{num, also, read};
-ghost use Rattle.format.specs.Kinds.{tpmtPublicParms, tpmtSignature, tpmtPublic, tpmtSensitive, tpmuPublicParms, tpmuPublicId};
-ghost use Rattle.keys.specs.Answers.{tpmtPublicParmsAnswer, tpmtSignatureAnswer, tpmtPublicAnswer, tpmtSensitiveAnswer};
+ghost use Rattle.wire.specs.Faults.{noField};
+ghost use Rattle.wire.specs.Reading.{num, also, read, readWhole, refused};
+ghost use Rattle.wire.specs.Fields.{partOf, sizeOf, fieldOf};
+ghost use Rattle.format.specs.Kinds.{tpmtPublic, tpmtSensitive, tpmuPublicParms, tpmuPublicId};
+ghost use Rattle.steps.specs.Walks.{here, Walks};
+ghost use Rattle.steps.specs.Writes.{Writes};
+ghost use Rattle.keys.specs.Answers.{tpmtPublicAnswer, tpmtSensitiveAnswer};
+ghost use Rattle.keys.specs.Parts.{tpmtPublicParts, tpmtSensitiveParts};
 
 // The attributes of an object, as they stand.
 pub struct TpmaObject(pub u32);
@@ -36,31 +45,11 @@ pub struct TpmtPublic {
     pub unique: TpmuPublicId,
 }
 
-pub struct TpmtPublicParms {
-    pub object_type: TpmAlgId,
-    pub parameters: TpmuPublicParms,
-}
-
 pub struct TpmtSensitive {
     pub sensitive_type: TpmAlgId,
     pub auth_value: Span,
     pub seed_value: Span,
     pub sensitive: TpmuSensitiveComposite,
-}
-
-pub struct TpmtSignature {
-    pub sig_alg: TpmAlgId,
-    pub signature: TpmuSignature,
-}
-
-pub enum TpmtPublicParmsRead {
-    Found(TpmtPublicParms, usize),
-    No(Refusal),
-}
-
-pub enum TpmtSignatureRead {
-    Found(TpmtSignature, usize),
-    No(Refusal),
 }
 
 pub enum TpmtPublicRead {
@@ -71,66 +60,6 @@ pub enum TpmtPublicRead {
 pub enum TpmtSensitiveRead {
     Found(TpmtSensitive, usize),
     No(Refusal),
-}
-
-impl TpmtPublicParms {
-    // Kind 9, TPMT_PUBLIC_PARMS, read.
-    pub fn unmarshal(s: &[u8], at: usize) -> TpmtPublicParmsRead
-        ensures { λ r. ⌜ tpmtPublicParmsAnswer r ≡ read tpmtPublicParms (now (s .entry)) at ⌝ }
-    {
-        let mut end = at;
-        let object_type = match TpmAlgId::unmarshal(s, end) {
-            TpmAlgIdRead::Found(v, e) => {
-                end = e;
-                v
-            }
-            TpmAlgIdRead::No(f) => return TpmtPublicParmsRead::No(f),
-        };
-        let parameters = match TpmuPublicParms::unmarshal_tagged(object_type, s, end) {
-            TpmuPublicParmsRead::Found(v, e) => {
-                end = e;
-                v
-            }
-            TpmuPublicParmsRead::No(f) => return TpmtPublicParmsRead::No(f),
-        };
-        TpmtPublicParmsRead::Found(
-            TpmtPublicParms {
-                object_type: object_type,
-                parameters: parameters,
-            },
-            end,
-        )
-    }
-}
-
-impl TpmtSignature {
-    // Kind 10, TPMT_SIGNATURE, read.
-    pub fn unmarshal(s: &[u8], at: usize) -> TpmtSignatureRead
-        ensures { λ r. ⌜ tpmtSignatureAnswer r ≡ read tpmtSignature (now (s .entry)) at ⌝ }
-    {
-        let mut end = at;
-        let sig_alg = match TpmAlgId::unmarshal(s, end) {
-            TpmAlgIdRead::Found(v, e) => {
-                end = e;
-                v
-            }
-            TpmAlgIdRead::No(f) => return TpmtSignatureRead::No(f),
-        };
-        let signature = match TpmuSignature::unmarshal_tagged(sig_alg, s, end) {
-            TpmuSignatureRead::Found(v, e) => {
-                end = e;
-                v
-            }
-            TpmuSignatureRead::No(f) => return TpmtSignatureRead::No(f),
-        };
-        TpmtSignatureRead::Found(
-            TpmtSignature {
-                sig_alg: sig_alg,
-                signature: signature,
-            },
-            end,
-        )
-    }
 }
 
 impl TpmtPublic {
@@ -215,6 +144,69 @@ impl TpmtPublic {
             end,
         )
     }
+
+    pub fn whole(s: &[u8], at: usize) -> TpmtPublicRead
+        ensures { λ r. ⌜ tpmtPublicAnswer r ≡ readWhole tpmtPublic (now (s .entry)) at ⌝ }
+    {
+        match TpmtPublic::unmarshal(s, at) {
+            TpmtPublicRead::Found(x, e) => match nothing_behind(s, e) {
+                Measure::Size(_) => TpmtPublicRead::Found(x, e),
+                Measure::No(f) => TpmtPublicRead::No(f),
+            },
+            TpmtPublicRead::No(f) => TpmtPublicRead::No(f),
+        }
+    }
+
+    pub fn walk(self, w: Walk, src: &[u8], out: &mut [u8]) -> Walk
+        ensures { λ r. ⌜ Walks 20 tpmtPublic (tpmtPublicParts self) [] (now (src .entry)) (here w (now (out .entry))) (here r (now (out .exit))) ⌝ }
+    {
+        let object_type = self.object_type;
+        let name_alg = self.name_alg;
+        let object_attributes = self.object_attributes;
+        let auth_policy = self.auth_policy;
+        let parameters = self.parameters;
+        let unique = self.unique;
+        let v = w.algorithm(object_type, out)
+            .algorithm(name_alg, out)
+            .uint32(object_attributes.0, out)
+            .buffer(limits::MAX_DIGEST_SIZE, auth_policy, src, out);
+        let u = parameters.walk_tagged(object_type, v, src, out);
+        unique.walk_tagged(object_type, u, src, out)
+    }
+
+    pub fn marshal(self, src: &[u8], out: &mut [u8]) -> Measure
+        ensures { λ r. ⌜ Writes tpmtPublic (tpmtPublicParts self) (now (src .entry)) (now (out .entry)) r (now (out .exit)) ⌝ }
+    {
+        let judged = self.walk(judging(0), src, out);
+        self.walk(judged.ready(out.len()), src, out).answer()
+    }
+
+    pub fn field<'a>(self, s: &'a [u8], index: usize) -> &'a [u8]
+        ensures { λ r. ⌜ now r ≡ partOf (fieldOf (tpmtPublicParts self) index (now (s .entry))) ⌝ }
+    {
+        let mut none = [0u8; 1];
+        self.walk(seeking(index), s, &mut none).part(s)
+    }
+
+    pub fn field_size(self, s: &[u8], index: usize) -> Measure
+        ensures { λ r. ⌜ measureAnswer r ≡ sizeOf (fieldOf (tpmtPublicParts self) index (now (s .entry))) ⌝ }
+    {
+        let mut none = [0u8; 1];
+        self.walk(seeking(index), s, &mut none).size(s, index)
+    }
+
+    // It has no list.
+    pub fn item<'a>(self, s: &'a [u8], index: usize) -> &'a [u8]
+        ensures { λ r. ⌜ now r ≡ [] ⌝ }
+    {
+        &s[0..0]
+    }
+
+    pub fn item_size(self, s: &[u8], index: usize) -> Measure
+        ensures { λ r. ⌜ measureAnswer r ≡ refused (noField index) ⌝ }
+    {
+        Measure::No(Refusal::no_field(index))
+    }
 }
 
 impl TpmtSensitive {
@@ -260,5 +252,64 @@ impl TpmtSensitive {
             },
             end,
         )
+    }
+
+    pub fn whole(s: &[u8], at: usize) -> TpmtSensitiveRead
+        ensures { λ r. ⌜ tpmtSensitiveAnswer r ≡ readWhole tpmtSensitive (now (s .entry)) at ⌝ }
+    {
+        match TpmtSensitive::unmarshal(s, at) {
+            TpmtSensitiveRead::Found(x, e) => match nothing_behind(s, e) {
+                Measure::Size(_) => TpmtSensitiveRead::Found(x, e),
+                Measure::No(f) => TpmtSensitiveRead::No(f),
+            },
+            TpmtSensitiveRead::No(f) => TpmtSensitiveRead::No(f),
+        }
+    }
+
+    pub fn walk(self, w: Walk, src: &[u8], out: &mut [u8]) -> Walk
+        ensures { λ r. ⌜ Walks 5 tpmtSensitive (tpmtSensitiveParts self) [] (now (src .entry)) (here w (now (out .entry))) (here r (now (out .exit))) ⌝ }
+    {
+        let sensitive_type = self.sensitive_type;
+        let auth_value = self.auth_value;
+        let seed_value = self.seed_value;
+        let sensitive = self.sensitive;
+        let v = w.algorithm(sensitive_type, out)
+            .buffer(limits::MAX_DIGEST_SIZE, auth_value, src, out)
+            .buffer(limits::MAX_DIGEST_SIZE, seed_value, src, out);
+        sensitive.walk_tagged(sensitive_type, v, src, out)
+    }
+
+    pub fn marshal(self, src: &[u8], out: &mut [u8]) -> Measure
+        ensures { λ r. ⌜ Writes tpmtSensitive (tpmtSensitiveParts self) (now (src .entry)) (now (out .entry)) r (now (out .exit)) ⌝ }
+    {
+        let judged = self.walk(judging(0), src, out);
+        self.walk(judged.ready(out.len()), src, out).answer()
+    }
+
+    pub fn field<'a>(self, s: &'a [u8], index: usize) -> &'a [u8]
+        ensures { λ r. ⌜ now r ≡ partOf (fieldOf (tpmtSensitiveParts self) index (now (s .entry))) ⌝ }
+    {
+        let mut none = [0u8; 1];
+        self.walk(seeking(index), s, &mut none).part(s)
+    }
+
+    pub fn field_size(self, s: &[u8], index: usize) -> Measure
+        ensures { λ r. ⌜ measureAnswer r ≡ sizeOf (fieldOf (tpmtSensitiveParts self) index (now (s .entry))) ⌝ }
+    {
+        let mut none = [0u8; 1];
+        self.walk(seeking(index), s, &mut none).size(s, index)
+    }
+
+    // It has no list.
+    pub fn item<'a>(self, s: &'a [u8], index: usize) -> &'a [u8]
+        ensures { λ r. ⌜ now r ≡ [] ⌝ }
+    {
+        &s[0..0]
+    }
+
+    pub fn item_size(self, s: &[u8], index: usize) -> Measure
+        ensures { λ r. ⌜ measureAnswer r ≡ refused (noField index) ⌝ }
+    {
+        Measure::No(Refusal::no_field(index))
     }
 }

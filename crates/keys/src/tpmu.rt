@@ -1,23 +1,10 @@
-// The unions of keys and signatures. Parameters and unique are chosen by the same selector, the type; the sensitive union has no Null.
-use crate::tpms::TpmsEccParms;
-use crate::tpms::TpmsEccParmsRead;
+// The unions of keys. What is unique is chosen by the type, as the parameters are; the sensitive union has no Null.
 use crate::tpms::TpmsEccPoint;
 use crate::tpms::TpmsEccPointRead;
-use crate::tpms::TpmsKeyedhashParms;
-use crate::tpms::TpmsKeyedhashParmsRead;
-use crate::tpms::TpmsRsaParms;
-use crate::tpms::TpmsRsaParmsRead;
-use crate::tpms::TpmsSignatureEcc;
-use crate::tpms::TpmsSignatureEccRead;
-use crate::tpms::TpmsSignatureRsa;
-use crate::tpms::TpmsSignatureRsaRead;
-use crate::tpms::TpmsSymcipherParms;
-use crate::tpms::TpmsSymcipherParmsRead;
 use format::codes::TpmAlgId;
 use format::limits;
 use format::registry;
-use schemes::tpmt::TpmtHa;
-use schemes::tpmt::TpmtHaRead;
+use steps::walk::Walk;
 use wire::fault::Refusal;
 use wire::read::SpanRead;
 use wire::read::buffer;
@@ -25,25 +12,19 @@ use wire::span::Span;
 use wire::widen::wide;
 use wire::width::Width;
 ghost use mathlib.Core.Path.{_≡_};
+ghost use mathlib.Core.List.{[]};
 ghost use Rattle.wire.specs.Reading.{read};
 ghost use Rattle.wire.specs.Unions.{isArm, held};
-ghost use Rattle.format.specs.Kinds.{tpmuPublicParmsArm, tpmuPublicIdArm, tpmuSensitiveCompositeArm, tpmuSignatureArm, tpmuPublicParms, tpmuPublicId, tpmuSensitiveComposite, tpmuSignature};
-ghost use Rattle.keys.specs.Parts.{tpmuPublicParmsParts, tpmuPublicIdParts, tpmuSensitiveCompositeParts, tpmuSignatureParts};
-ghost use Rattle.keys.specs.Answers.{tpmuPublicParmsAnswer, tpmuPublicIdAnswer, tpmuSensitiveCompositeAnswer, tpmuSignatureAnswer};
+ghost use Rattle.format.specs.Kinds.{tpmuPublicIdArm, tpmuSensitiveCompositeArm, tpmuPublicId, tpmuSensitiveComposite};
+ghost use Rattle.steps.specs.Walks.{here, Walks};
+ghost use Rattle.keys.specs.Parts.{tpmuPublicIdParts, tpmuSensitiveCompositeParts};
+ghost use Rattle.keys.specs.Answers.{tpmuPublicIdAnswer, tpmuSensitiveCompositeAnswer};
 
 pub enum TpmuPublicId {
     KeyedHash(Span),
     SymCipher(Span),
     Rsa(Span),
     Ecc(TpmsEccPoint),
-    Null,
-}
-
-pub enum TpmuPublicParms {
-    KeyedHash(TpmsKeyedhashParms),
-    SymCipher(TpmsSymcipherParms),
-    Rsa(TpmsRsaParms),
-    Ecc(TpmsEccParms),
     Null,
 }
 
@@ -54,34 +35,13 @@ pub enum TpmuSensitiveComposite {
     Sym(Span),
 }
 
-pub enum TpmuSignature {
-    Rsassa(TpmsSignatureRsa),
-    Rsapss(TpmsSignatureRsa),
-    Ecdsa(TpmsSignatureEcc),
-    Ecdaa(TpmsSignatureEcc),
-    Sm2(TpmsSignatureEcc),
-    Ecschnorr(TpmsSignatureEcc),
-    Hmac(TpmtHa),
-    Null,
-}
-
 pub enum TpmuPublicIdRead {
     Found(TpmuPublicId, usize),
     No(Refusal),
 }
 
-pub enum TpmuPublicParmsRead {
-    Found(TpmuPublicParms, usize),
-    No(Refusal),
-}
-
 pub enum TpmuSensitiveCompositeRead {
     Found(TpmuSensitiveComposite, usize),
-    No(Refusal),
-}
-
-pub enum TpmuSignatureRead {
-    Found(TpmuSignature, usize),
     No(Refusal),
 }
 
@@ -116,67 +76,26 @@ impl TpmuPublicId {
     pub fn matches_tag(self, tag: TpmAlgId) -> bool
         ensures { λ r. ⌜ r ≡ isArm (tpmuPublicIdArm (tag .0)) (held (tpmuPublicIdParts self)) ⌝ }
     {
-        let chosen = tag.public_id_arm();
-        match self {
-            TpmuPublicId::KeyedHash(_) => chosen.is(registry::KEYED_HASH),
-            TpmuPublicId::SymCipher(_) => chosen.is(registry::SYM_CIPHER),
-            TpmuPublicId::Rsa(_) => chosen.is(registry::RSA),
-            TpmuPublicId::Ecc(_) => chosen.is(registry::ECC),
-            TpmuPublicId::Null => chosen.is(registry::NULL),
-        }
-    }
-}
-
-impl TpmuPublicParms {
-    pub fn unmarshal_tagged(tag: TpmAlgId, s: &[u8], at: usize) -> TpmuPublicParmsRead
-        ensures { λ r. ⌜ tpmuPublicParmsAnswer r ≡ read (tpmuPublicParms (tag .0)) (now (s .entry)) at ⌝ }
-    {
         let v = tag.0;
-        match v {
-            registry::KEYED_HASH => match TpmsKeyedhashParms::unmarshal(s, at) {
-                TpmsKeyedhashParmsRead::Found(x, e) => TpmuPublicParmsRead::Found(
-                    TpmuPublicParms::KeyedHash(x),
-                    e,
-                ),
-                TpmsKeyedhashParmsRead::No(f) => TpmuPublicParmsRead::No(f),
-            },
-            registry::SYM_CIPHER => match TpmsSymcipherParms::unmarshal(s, at) {
-                TpmsSymcipherParmsRead::Found(x, e) => TpmuPublicParmsRead::Found(
-                    TpmuPublicParms::SymCipher(x),
-                    e,
-                ),
-                TpmsSymcipherParmsRead::No(f) => TpmuPublicParmsRead::No(f),
-            },
-            registry::RSA => match TpmsRsaParms::unmarshal(s, at) {
-                TpmsRsaParmsRead::Found(x, e) => TpmuPublicParmsRead::Found(
-                    TpmuPublicParms::Rsa(x),
-                    e,
-                ),
-                TpmsRsaParmsRead::No(f) => TpmuPublicParmsRead::No(f),
-            },
-            registry::ECC => match TpmsEccParms::unmarshal(s, at) {
-                TpmsEccParmsRead::Found(x, e) => TpmuPublicParmsRead::Found(
-                    TpmuPublicParms::Ecc(x),
-                    e,
-                ),
-                TpmsEccParmsRead::No(f) => TpmuPublicParmsRead::No(f),
-            },
-            registry::NULL => TpmuPublicParmsRead::Found(TpmuPublicParms::Null, at),
-            _ => TpmuPublicParmsRead::No(Refusal::no_arm(at, wide(v))),
+        match self {
+            TpmuPublicId::KeyedHash(_) => v == registry::KEYED_HASH,
+            TpmuPublicId::SymCipher(_) => v == registry::SYM_CIPHER,
+            TpmuPublicId::Rsa(_) => v == registry::RSA,
+            TpmuPublicId::Ecc(_) => v == registry::ECC,
+            TpmuPublicId::Null => v == registry::NULL,
         }
     }
 
-    // Whether the payload is the arm that the selector chooses.
-    pub fn matches_tag(self, tag: TpmAlgId) -> bool
-        ensures { λ r. ⌜ r ≡ isArm (tpmuPublicParmsArm (tag .0)) (held (tpmuPublicParmsParts self)) ⌝ }
+    pub fn walk_tagged(self, tag: TpmAlgId, w: Walk, src: &[u8], out: &mut [u8]) -> Walk
+        ensures { λ r. ⌜ Walks 3 (tpmuPublicId (tag .0)) (tpmuPublicIdParts self) [] (now (src .entry)) (here w (now (out .entry))) (here r (now (out .exit))) ⌝ }
     {
-        let chosen = tag.public_parms_arm();
+        let v = w.due(tag.0, tag.public_id_arm(), self.matches_tag(tag));
         match self {
-            TpmuPublicParms::KeyedHash(_) => chosen.is(registry::KEYED_HASH),
-            TpmuPublicParms::SymCipher(_) => chosen.is(registry::SYM_CIPHER),
-            TpmuPublicParms::Rsa(_) => chosen.is(registry::RSA),
-            TpmuPublicParms::Ecc(_) => chosen.is(registry::ECC),
-            TpmuPublicParms::Null => chosen.is(registry::NULL),
+            TpmuPublicId::KeyedHash(x) => v.buffer(limits::MAX_DIGEST_SIZE, x, src, out),
+            TpmuPublicId::SymCipher(x) => v.buffer(limits::MAX_SYM_KEY_BYTES, x, src, out),
+            TpmuPublicId::Rsa(x) => v.buffer(limits::MAX_RSA_KEY_BYTES, x, src, out),
+            TpmuPublicId::Ecc(x) => x.walk(v, src, out),
+            TpmuPublicId::Null => v,
         }
     }
 }
@@ -223,87 +142,24 @@ impl TpmuSensitiveComposite {
     pub fn matches_tag(self, tag: TpmAlgId) -> bool
         ensures { λ r. ⌜ r ≡ isArm (tpmuSensitiveCompositeArm (tag .0)) (held (tpmuSensitiveCompositeParts self)) ⌝ }
     {
-        let chosen = tag.sensitive_composite_arm();
-        match self {
-            TpmuSensitiveComposite::Rsa(_) => chosen.is(registry::RSA),
-            TpmuSensitiveComposite::Ecc(_) => chosen.is(registry::ECC),
-            TpmuSensitiveComposite::Bits(_) => chosen.is(registry::KEYED_HASH),
-            TpmuSensitiveComposite::Sym(_) => chosen.is(registry::SYM_CIPHER),
-        }
-    }
-}
-
-impl TpmuSignature {
-    pub fn unmarshal_tagged(tag: TpmAlgId, s: &[u8], at: usize) -> TpmuSignatureRead
-        ensures { λ r. ⌜ tpmuSignatureAnswer r ≡ read (tpmuSignature (tag .0)) (now (s .entry)) at ⌝ }
-    {
         let v = tag.0;
-        match v {
-            registry::RSASSA => match TpmsSignatureRsa::unmarshal(s, at) {
-                TpmsSignatureRsaRead::Found(x, e) => TpmuSignatureRead::Found(
-                    TpmuSignature::Rsassa(x),
-                    e,
-                ),
-                TpmsSignatureRsaRead::No(f) => TpmuSignatureRead::No(f),
-            },
-            registry::RSAPSS => match TpmsSignatureRsa::unmarshal(s, at) {
-                TpmsSignatureRsaRead::Found(x, e) => TpmuSignatureRead::Found(
-                    TpmuSignature::Rsapss(x),
-                    e,
-                ),
-                TpmsSignatureRsaRead::No(f) => TpmuSignatureRead::No(f),
-            },
-            registry::ECDSA => match TpmsSignatureEcc::unmarshal(s, at) {
-                TpmsSignatureEccRead::Found(x, e) => TpmuSignatureRead::Found(
-                    TpmuSignature::Ecdsa(x),
-                    e,
-                ),
-                TpmsSignatureEccRead::No(f) => TpmuSignatureRead::No(f),
-            },
-            registry::ECDAA => match TpmsSignatureEcc::unmarshal(s, at) {
-                TpmsSignatureEccRead::Found(x, e) => TpmuSignatureRead::Found(
-                    TpmuSignature::Ecdaa(x),
-                    e,
-                ),
-                TpmsSignatureEccRead::No(f) => TpmuSignatureRead::No(f),
-            },
-            registry::SM2 => match TpmsSignatureEcc::unmarshal(s, at) {
-                TpmsSignatureEccRead::Found(x, e) => TpmuSignatureRead::Found(
-                    TpmuSignature::Sm2(x),
-                    e,
-                ),
-                TpmsSignatureEccRead::No(f) => TpmuSignatureRead::No(f),
-            },
-            registry::ECSCHNORR => match TpmsSignatureEcc::unmarshal(s, at) {
-                TpmsSignatureEccRead::Found(x, e) => TpmuSignatureRead::Found(
-                    TpmuSignature::Ecschnorr(x),
-                    e,
-                ),
-                TpmsSignatureEccRead::No(f) => TpmuSignatureRead::No(f),
-            },
-            registry::HMAC => match TpmtHa::unmarshal(s, at) {
-                TpmtHaRead::Found(x, e) => TpmuSignatureRead::Found(TpmuSignature::Hmac(x), e),
-                TpmtHaRead::No(f) => TpmuSignatureRead::No(f),
-            },
-            registry::NULL => TpmuSignatureRead::Found(TpmuSignature::Null, at),
-            _ => TpmuSignatureRead::No(Refusal::no_arm(at, wide(v))),
+        match self {
+            TpmuSensitiveComposite::Rsa(_) => v == registry::RSA,
+            TpmuSensitiveComposite::Ecc(_) => v == registry::ECC,
+            TpmuSensitiveComposite::Bits(_) => v == registry::KEYED_HASH,
+            TpmuSensitiveComposite::Sym(_) => v == registry::SYM_CIPHER,
         }
     }
 
-    // Whether the payload is the arm that the selector chooses.
-    pub fn matches_tag(self, tag: TpmAlgId) -> bool
-        ensures { λ r. ⌜ r ≡ isArm (tpmuSignatureArm (tag .0)) (held (tpmuSignatureParts self)) ⌝ }
+    pub fn walk_tagged(self, tag: TpmAlgId, w: Walk, src: &[u8], out: &mut [u8]) -> Walk
+        ensures { λ r. ⌜ Walks 2 (tpmuSensitiveComposite (tag .0)) (tpmuSensitiveCompositeParts self) [] (now (src .entry)) (here w (now (out .entry))) (here r (now (out .exit))) ⌝ }
     {
-        let chosen = tag.signature_arm();
+        let v = w.due(tag.0, tag.sensitive_composite_arm(), self.matches_tag(tag));
         match self {
-            TpmuSignature::Rsassa(_) => chosen.is(registry::RSASSA),
-            TpmuSignature::Rsapss(_) => chosen.is(registry::RSAPSS),
-            TpmuSignature::Ecdsa(_) => chosen.is(registry::ECDSA),
-            TpmuSignature::Ecdaa(_) => chosen.is(registry::ECDAA),
-            TpmuSignature::Sm2(_) => chosen.is(registry::SM2),
-            TpmuSignature::Ecschnorr(_) => chosen.is(registry::ECSCHNORR),
-            TpmuSignature::Hmac(_) => chosen.is(registry::HMAC),
-            TpmuSignature::Null => chosen.is(registry::NULL),
+            TpmuSensitiveComposite::Rsa(x) => v.buffer(limits::MAX_PRIVATE_KEY_RSA, x, src, out),
+            TpmuSensitiveComposite::Ecc(x) => v.buffer(limits::MAX_ECC_KEY_BYTES, x, src, out),
+            TpmuSensitiveComposite::Bits(x) => v.buffer(limits::MAX_SENSITIVE_DATA, x, src, out),
+            TpmuSensitiveComposite::Sym(x) => v.buffer(limits::MAX_SYM_KEY_BYTES, x, src, out),
         }
     }
 }

@@ -1,5 +1,5 @@
 -- From what is answered of a record to its listing. Assumes nothing.
-use Prim.Native.Nat.{ℕ, _+_, _*_, _-_, _≤_, _<_}
+use Prim.Native.Nat.{ℕ, _+_, _-_, _≤_, _<_}
 use native.Mathlib.Omega.{arith}
 use borrow.Author.Tests.{le-leb, lt-leb}
 use mathlib.Core.Path.{_≡_, refl, sym, ap, _∙_}
@@ -12,25 +12,22 @@ use Rattle.wire.specs.declared.fault.Refusal.{Refusal}
 use Rattle.wire.specs.declared.measure.Measure.{Measure}
 use Rattle.wire.specs.Bytes.{Bytes}
 use Rattle.wire.specs.Faults.{paper, noRoom, badKind, oversize}
-use Rattle.wire.specs.Reading.{Ans, Part, found, refused, Parsed, parsed, read}
-use Rattle.wire.specs.Writing.{lay}
-use Rattle.wire.specs.Fields.{partOf}
+use Rattle.wire.specs.Reading.{Ans, Part, found, refused, Parsed, parsed, endOf}
 use Rattle.wire.specs.Answers.{measureAnswer}
 use Rattle.wire.proofs.Rest.{told}
-use Rattle.wire.proofs.Steps.{found-refused, found-same, when-found}
-use Rattle.wire.proofs.Written.{read-then-lay}
+use Rattle.wire.proofs.Steps.{found-refused, found-same, refused-same, next-found}
 use Rattle.format.specs.Kinds.{isKind, layoutOf, readKind}
-use Rattle.plans.specs.declared.plan.Plan.{Plan}
 use Rattle.wire.specs.Lines.{lines}
-use Rattle.plans.specs.Steps.{steps, Room, spell, linesOf}
-use Rattle.plans.specs.Walked.{Legal}
 use Rattle.text.specs.Puts.{Puts}
-use Rattle.text.proofs.Putting.{puts-length}
-use Rattle.records.proofs.Rewritten.{read-record-lies-in-its-source}
-use Rattle.by_kind.specs.Planned.{Planned}
-use Rattle.by_kind.specs.declared.kind.PlanRead.{PlanRead}
 use Rattle.text.specs.Text.{linesText, readText, refusedText}
+use Rattle.text.proofs.Putting.{puts-length}
 use Rattle.text.proofs.Rows.{puts-both, puts-same, read-text-length, refused-text-length}
+use Rattle.steps.specs.declared.walk.Walk.{Walk}
+use Rattle.steps.specs.Walks.{here, lining}
+use Rattle.steps.proofs.Listed.{walk-lists}
+use Rattle.records.specs.Walked.{WalkOf}
+use Rattle.records.proofs.Rewritten.{read-record-lies-in-its-source}
+use Rattle.records.proofs.Walked.{read-of-kind, read-bytes}
 use Rattle.listing.specs.Listing.{judged, answerText, recordText, listing, Lists}
 
 -- ---- what is answered
@@ -46,8 +43,13 @@ pub judged-read : (k : ℕ) (bs : List ℕ) → length bs ≤ 4096 → judged k 
 unfolding judged readKind
 judged-read k bs few = rw (le-leb (length bs) 4096 few)
 
-pub judged-refused : (k : ℕ) (bs : List ℕ) {r : PlanRead} {f : Refusal} → length bs ≤ 4096 → Planned k bs r → r .end ≡ Measure.No f → judged k bs ≡ refused f
-judged-refused k bs few p given = judged-read k bs few ∙ p .refusal given
+-- as where a record ends is answered
+pub judged-refused : (k : ℕ) (bs : List ℕ) {m : Measure} {f : Refusal} → length bs ≤ 4096 → measureAnswer m ≡ endOf (readKind k bs 0) → m ≡ Measure.No f → judged k bs ≡ refused f
+judged-refused k bs {f = f} few p given = judged-read k bs few ∙ by (readKind k bs 0) (sym p ∙ ap measureAnswer given)
+  where
+    by : (y : Ans Parsed) → endOf y ≡ refused f → y ≡ refused f
+    by (found r) e = absurd (found-refused (sym e))
+    by (refused g) e = ap refused (refused-same e)
 
 -- one that is too long is not read
 pub judged-unread : (k : ℕ) (bs : List ℕ) → 4096 < length bs → judged k bs ≡ refused (cond (isKind k) oversize (badKind k))
@@ -69,50 +71,35 @@ pub refusal-listed : (k : ℕ) (bs : List ℕ) {f : Refusal} {old : List ℕ} {r
     → Puts 0 (refusedText k (paper (f .fault) .number) (f .place) (f .value)) old r last → Puts 0 (recordText k bs) old r last × (r ≤ 98304)
 refusal-listed k bs {f} e p = (puts-same (refused-listed k bs e) p, omega (arith, p .behind, refused-text-length k (paper (f .fault) .number) (f .place) (f .value)))
 
--- the plan is that of a record that was read from bs, ends at e, and can be listed
-pub record ReadAs (k : ℕ) (bs : List ℕ) (plan : Plan) (e : ℕ) : Type 0 where
-  pub text : readText k e (length bs - e) ++ linesText (linesOf (steps plan) bs 0) ≡ recordText k bs
-  pub inside : e ≤ length bs
-  pub room : Room 0 plan
-  pub legal : Legal (spell (steps plan) bs 0)
-  pub few : length (partOf (spell (steps plan) bs 0)) ≤ 4096
-
-kind-read : (k : ℕ) (bs : List ℕ) {ps : List Part} {e : ℕ} → readKind k bs 0 ≡ parsed ps e → read (layoutOf k) bs 0 ≡ parsed ps e
-unfolding readKind
-kind-read k bs p = when-found (isKind k) _ _ p .1
-
 pub read-listed : (k : ℕ) (bs : List ℕ) {ps : List Part} {e : ℕ} → judged k bs ≡ parsed ps e
     → readText k e (length bs - e) ++ linesText (lines (layoutOf k) ps bs 0) ≡ recordText k bs
 unfolding recordText
 read-listed k bs e = ap (λ a. answerText k bs a) (sym e)
 
-pub read-as : (k : ℕ) (bs : List ℕ) {r : PlanRead} {e : ℕ} → Bytes bs → length bs ≤ 4096 → Planned k bs r → r .end ≡ Measure.Size e → ReadAs k bs (r .plan) e
-read-as k bs {r} {e} b short p given =
-    let (ps, answer, of) = p .plan given in
-    let there = kind-read k bs answer in
-    let (some, inside) = read-record-lies-in-its-source k bs 0 b there in
-    let laid : lay (layoutOf k) ps bs 0 ≡ found (take (e - 0) (drop 0 bs)) = read-then-lay (layoutOf k) bs 0 0 (record { parts = ps; stops = e }) b (omega arith) there in
-    let spelled : spell (steps (r .plan)) bs 0 ≡ found (take (e - 0) (drop 0 bs)) = of .spells bs ∙ laid in
-    record {
-      text = ap (λ ls. readText k e (length bs - e) ++ linesText ls) (of .shows bs _ laid) ∙ read-listed k bs (judged-read k bs short ∙ answer);
-      inside = inside;
-      room = of .room;
-      legal = spelled ∙ ap found (sym (ap partOf spelled));
-      few = omega (arith, ap (λ a. length (partOf a)) spelled, length-take-le (e - 0) bs (omega arith));
-    }
+-- a record was read from bs, and ends at e
+pub record ReadAs (k : ℕ) (bs : List ℕ) (e : ℕ) : Type 0 where
+  pub parts : List Part
+  pub answer : readKind k bs 0 ≡ parsed parts e
+  pub inside : e ≤ length bs
 
-module _ {k : ℕ} {bs : List ℕ} {plan : Plan} {e : ℕ} (read : ReadAs k bs plan e) {old mid : List ℕ} {m : ℕ} (put : Puts 0 (readText k e (length bs - e)) old m mid) (room : 98304 ≤ length old) where
-  near : m ≤ 78
-  near = omega (arith, put .behind, read-text-length k e (length bs - e))
+pub read-as : (k : ℕ) (bs : List ℕ) {m : Measure} {e : ℕ} → Bytes bs → measureAnswer m ≡ endOf (readKind k bs 0) → m ≡ Measure.Size e → ReadAs k bs e
+read-as k bs {e = e} b p given =
+    let (r, answer, stops) = next-found (readKind k bs 0) _ (sym p ∙ ap measureAnswer given) in
+    let there : readKind k bs 0 ≡ parsed (r .parts) e = answer ∙ ap (λ n. parsed (r .parts) n) (found-same stops) in
+    let (some, inside) = read-record-lies-in-its-source k bs 0 b (read-of-kind k bs there) in
+    record { parts = r .parts; answer = there; inside = inside }
 
-  -- behind the first line there is room for the others
-  pub lines-room : m + (74640 + 2 * length (partOf (spell (steps plan) bs 0))) ≤ length mid
-  lines-room = omega (arith, near, read .few, puts-length (omega (arith, near)) put)
-
-  -- and with them all is listed
-  pub record-listed : {r : ℕ} {last : List ℕ} → Puts m (linesText (linesOf (steps plan) bs 0)) mid r last → r ≤ m + (74640 + 2 * length (partOf (spell (steps plan) bs 0)))
-      → Puts 0 (recordText k bs) old r last × (r ≤ 98304)
-  record-listed rest most = (puts-same (read .text) (puts-both 78 put (read-text-length k e (length bs - e)) (omega arith) rest), omega (arith, near, read .few))
+-- the first line is put, and behind it those that a walk over the record puts
+pub record-listed : {k : ℕ} {bs : List ℕ} {e : ℕ} → ReadAs k bs e → Bytes bs → length bs ≤ 4096 → {old mid last : List ℕ} {m : ℕ} {u w : Walk} → Puts 0 (readText k e (length bs - e)) old m mid → 98304 ≤ length old
+    → u ≡ lining 0 m → WalkOf (layoutOf k) bs (readKind k bs 0) (here u mid) (here w last) → Puts 0 (recordText k bs) old (w .value) last × (w .value ≤ 98304)
+record-listed {k} {bs} {e} read b short {old} {mid} {last} {m} {u} {w} put room begin walks =
+    let near : m ≤ 78 = omega (arith, put .behind, read-text-length k e (length bs - e)) in
+    let (ls, p) = walks .walked (read .answer) in
+    let laid = read-bytes k bs _ b (read .answer) in
+    let few : length (take e bs) ≤ 4096 = omega (arith, length-take-le e bs (read .inside), read .inside) in
+    let kept : length mid ≡ length old = puts-length (omega (arith, near)) put in
+    let (there, lines, most) = walk-lists 24 (layoutOf k) (read .parts) ls bs mid last u w m (take e bs) begin p laid refl few (omega (arith, near)) in
+    (puts-same (read-listed k bs (judged-read k bs short ∙ read .answer)) (puts-both 78 put (read-text-length k e (length bs - e)) (omega arith) lines), omega (arith, near))
 
 -- ---- what is owed
 

@@ -1,5 +1,2 @@
 pub mod Deposits
-pub mod Parts
-pub mod Itemized
-pub mod Planned
 pub mod Promises

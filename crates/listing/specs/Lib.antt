@@ -1,2 +1,1 @@
-pub mod Listable
 pub mod Listing

@@ -1,10 +1,13 @@
 // The listing of a deposit: a kind byte, and then the record.
-use crate::step::put_plan_lines;
-use by_kind::kind::plan_of;
+use format::kind::is_kind;
+use records::kind::record_end;
+use records::walk::walk;
+use steps::walk::lining;
 use text::answer::put_read_line;
 use text::answer::put_refusal_line;
 use wire::fault::Refusal;
 use wire::measure::Measure;
+use wire::widen::wide_byte;
 ghost use mathlib.Core.Path.{_≡_};
 ghost use mathlib.Core.Bool.{cond};
 ghost use Prim.Native.Nat.{_≤_};
@@ -21,13 +24,10 @@ pub const LISTING_ROOM: usize = 98304;
 fn refused_unread(kind: u8) -> Refusal
     ensures { λ r. ⌜ r ≡ cond (isKind kind) oversize (badKind kind) ⌝ }
 {
-    if kind == 0 {
-        return Refusal::bad_kind(0);
+    if is_kind(kind) {
+        return Refusal::oversize();
     }
-    if kind > 14 {
-        return Refusal::bad_kind(kind as u64);
-    }
-    Refusal::oversize()
+    Refusal::bad_kind(wide_byte(kind))
 }
 
 // The listing of a record of that kind, at the start of out.
@@ -38,14 +38,12 @@ fn put_record(kind: u8, bytes: &[u8], out: &mut [u8]) -> usize
     if bytes.len() > 4096 {
         return put_refusal_line(kind, refused_unread(kind), out, 0);
     }
-    let answer = plan_of(kind, bytes);
-    let plan = answer.plan;
-    let end = answer.end;
-    match end {
+    match record_end(kind, bytes, 0) {
         Measure::Size(stop) => {
             let tail = bytes.len() - stop;
             let first = put_read_line(kind, stop, tail, out, 0);
-            put_plan_lines(plan, bytes, out, first)
+            let lines = walk(kind, bytes, lining(0, first), out);
+            lines.value as usize
         }
         Measure::No(f) => put_refusal_line(kind, f, out, 0),
     }

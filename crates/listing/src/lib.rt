@@ -1,4 +1,2 @@
-// The listing of a deposit: its record's steps as lines of text, in a lent slice.
+// The listing of a deposit: its record's fields as lines of text, in a lent slice.
 pub mod deposit;
-mod item;
-mod step;

@@ -1,8 +1,9 @@
 pub mod ByKind
 pub mod Promises
-pub mod Wholes
+pub mod Walked
 pub mod Lent
 pub mod Begun
 pub mod Laid
 pub mod Rewritten
 pub mod Readers
+pub mod Writers

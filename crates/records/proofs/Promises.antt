@@ -9,8 +9,8 @@ use Rattle.wire.specs.declared.fault.Fault.the-variants.{Short}
 use Rattle.wire.specs.declared.fault.Refusal.{Refusal}
 use Rattle.wire.specs.Bytes.{Bytes}
 use Rattle.wire.specs.Layout.{Layout}
-use Rattle.wire.specs.Reading.{Ans, found, refused, Parsed, parsed, read}
-use Rattle.wire.specs.Grammar.{Token, Spells, Stands, Starts, placed, shown}
+use Rattle.wire.specs.Reading.{found, refused, Parsed, parsed, read, endOf}
+use Rattle.wire.specs.Grammar.{Token, Spells, Starts, placed, shown}
 use Rattle.wire.specs.Refusals.{Refuses}
 use Rattle.wire.specs.Editions.{Later, Newer, Foreign}
 use Rattle.wire.proofs.Stand.{stands-start}
@@ -22,7 +22,6 @@ use Rattle.wire.proofs.Refused.{refuses-read, read-refuses}
 use Rattle.wire.proofs.Stable.{IsShort, cut-short}
 use Rattle.wire.proofs.Later.{later-read, later-cut}
 use Rattle.format.specs.Kinds.{isKind, layoutOf, readKind}
-use Rattle.records.specs.Ends.{endOf}
 use Rattle.records.proofs.ByKind.{of-kind}
 
 module _ (k : ℕ) where

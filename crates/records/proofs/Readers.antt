@@ -2,10 +2,10 @@
 -- `.. Answer` of its type means it, is `a`; `told` is that equation, for the layout of the kind's number. Assumes nothing.
 use Prim.Native.Nat.{ℕ, _+_, _≤_, _<_}
 use native.Mathlib.Omega.{arith}
-use borrow.Author.Tests.{lt-leb, eqb-true, eq-eqb}
+use borrow.Author.Tests.{lt-leb, eq-eqb}
 use mathlib.Core.Path.{_≡_, refl, sym, ap, _∙_}
 use mathlib.Core.Logic.{_⊎_, inl, inr}
-use mathlib.Core.Bool.{true, false, false≢true}
+use mathlib.Core.Bool.{true, false}
 use mathlib.Core.List.{List, [], _∷_, _++_, append-nil}
 use lib.ListN.{length, drop, length-drop}
 use lib.Seq.{drop-at, drop-drop}
@@ -17,7 +17,7 @@ use Rattle.wire.specs.Answers.{measureAnswer}
 use Rattle.wire.specs.Bytes.{Bytes}
 use Rattle.wire.specs.Faults.{badKind, trailing}
 use Rattle.wire.specs.Layout.{Layout, noArm}
-use Rattle.wire.specs.Reading.{Part, Ans, refused, Parsed, parsed, left, read, readWhole}
+use Rattle.wire.specs.Reading.{Part, Ans, refused, Parsed, parsed, left, read, readWhole, endOf}
 use Rattle.wire.specs.Grammar.{Token, Spells, Stands, Starts, placed, shown}
 use Rattle.wire.specs.Refusals.{Refuses}
 use Rattle.wire.specs.Unions.{isArm}
@@ -30,10 +30,10 @@ use Rattle.wire.proofs.Later.{Verdict, later}
 use Rattle.wire.proofs.Refused.{refuses-read}
 use Rattle.wire.proofs.Answers.{measure-answer-once}
 use Rattle.wire.proofs.Whole.{whole-is-read, read-is-whole, read-is-trailing}
+use Rattle.wire.proofs.Wholes.{whole-refused}
+use Rattle.wire.proofs.Unions.{chosen-is}
 use Rattle.format.specs.Kinds.{tpmtHa, tpmtSymDef, tpmtKdfScheme, tpmtKeyedhashScheme, tpmtSigScheme, tpmtAsymScheme, tpmtPublicParms, tpmtSignature, tpmtPublic, tpmtSensitive, tpmsAttest, tpmlPcrSelection, kinds, isKind, layoutOf, readKind}
-use Rattle.records.specs.Ends.{endOf}
 use Rattle.records.proofs.ByKind.{no-kind}
-use Rattle.records.proofs.Wholes.{whole-refused}
 use Rattle.records.proofs.Promises as promises
 
 -- ---- which layout a kind has
@@ -135,7 +135,7 @@ module _ (k : ℕ) (src : List ℕ) (at : ℕ) {a : Ans Parsed} (told : a ≡ re
 
   -- where none starts, the first fault in wire order is answered
   pub whole-first-is-refusal : {f : Refusal} → Refuses src (layoutOf k) at f → a ≡ refused f
-  whole-first-is-refusal faulty = told ∙ sym (whole-refused (layoutOf k) src at (sym (refuses-read faulty)))
+  whole-first-is-refusal faulty = told ∙ sym (whole-refused (λ x. x) (refused _) (refused _) (layoutOf k) src at _ refl (sym (refuses-read faulty)) refl)
 
 -- ---- where a record ends, by its kind's number
 
@@ -156,8 +156,7 @@ module _ (k : ℕ) (src : List ℕ) (at : ℕ) {r : Measure} (told : measureAnsw
 
 -- `matches_tag` says yes exactly when the arm that is held is the one that the selector chooses
 pub matches-the-chosen : (c : Choice) (t : ℕ) → isArm c t ≡ true → c ≡ Choice.The t
-matches-the-chosen Choice.Nothing t e = absurd (false≢true e)
-matches-the-chosen (Choice.The u) t e = ap Choice.The (sym (eqb-true t u e))
+matches-the-chosen c t e = chosen-is c t e
 
 pub chosen-matches : (c : Choice) (t : ℕ) → c ≡ Choice.The t → isArm c t ≡ true
 chosen-matches c t e = rw (e, eq-eqb t t refl)

@@ -1,3 +1,3 @@
-pub mod Ends
 pub mod Sizes
 pub mod Within
+pub mod Walked

@@ -1,20 +1,20 @@
 // A record of any kind by the kind's number, for callers that only need to know where it ends.
 use attest::attestation::TpmsAttest;
 use attest::attestation::TpmsAttestRead;
+use attest::list::TpmlPcrSelection;
+use attest::list::TpmlPcrSelectionRead;
+use ciphers::tpmt::TpmtHa;
+use ciphers::tpmt::TpmtHaRead;
+use ciphers::tpmt::TpmtSymDef;
+use ciphers::tpmt::TpmtSymDefRead;
 use keys::tpmt::TpmtPublic;
-use keys::tpmt::TpmtPublicParms;
-use keys::tpmt::TpmtPublicParmsRead;
 use keys::tpmt::TpmtPublicRead;
 use keys::tpmt::TpmtSensitive;
 use keys::tpmt::TpmtSensitiveRead;
-use keys::tpmt::TpmtSignature;
-use keys::tpmt::TpmtSignatureRead;
-use schemes::list::TpmlPcrSelection;
-use schemes::list::TpmlPcrSelectionRead;
+use parameters::tpmt::TpmtPublicParms;
+use parameters::tpmt::TpmtPublicParmsRead;
 use schemes::tpmt::TpmtEccScheme;
 use schemes::tpmt::TpmtEccSchemeRead;
-use schemes::tpmt::TpmtHa;
-use schemes::tpmt::TpmtHaRead;
 use schemes::tpmt::TpmtKdfScheme;
 use schemes::tpmt::TpmtKdfSchemeRead;
 use schemes::tpmt::TpmtKeyedhashScheme;
@@ -25,16 +25,15 @@ use schemes::tpmt::TpmtRsaScheme;
 use schemes::tpmt::TpmtRsaSchemeRead;
 use schemes::tpmt::TpmtSigScheme;
 use schemes::tpmt::TpmtSigSchemeRead;
-use schemes::tpmt::TpmtSymDef;
-use schemes::tpmt::TpmtSymDefRead;
+use signatures::tpmt::TpmtSignature;
+use signatures::tpmt::TpmtSignatureRead;
 use wire::fault::Refusal;
 use wire::measure::Measure;
 use wire::widen::wide_byte;
 ghost use mathlib.Core.Path.{_≡_};
 ghost use Rattle.wire.specs.Answers.{measureAnswer};
-ghost use Rattle.wire.specs.Reading.{read};
+ghost use Rattle.wire.specs.Reading.{read, endOf};
 ghost use Rattle.format.specs.Kinds.{tpmtHa, tpmtSymDef, tpmtKdfScheme, tpmtKeyedhashScheme, tpmtSigScheme, tpmtAsymScheme, tpmtPublicParms, tpmtSignature, tpmtPublic, tpmtSensitive, tpmsAttest, tpmlPcrSelection, readKind};
-ghost use Rattle.records.specs.Ends.{endOf};
 
 fn ha_end(s: &[u8], at: usize) -> Measure
     ensures { λ r. ⌜ measureAnswer r ≡ endOf (read tpmtHa (now (s .entry)) at) ⌝ }

@@ -1,26 +1,16 @@
--- The arms of the schemes' unions and of digests, told by their numbers. Assumes nothing.
-use Prim.Native.Nat.{ℕ, suc, _≤_}
+-- The arms of the schemes' unions, told by their numbers. Assumes nothing.
+use Prim.Native.Nat.{ℕ, _≤_}
 use native.Mathlib.Omega.{arith}
-use mathlib.Core.Path.{_≡_, refl, sym, ap, _∙_}
-use mathlib.Core.Bool.{Bool, true, false}
-use mathlib.Core.List.{List, [], _∷_}
-use lib.Dec.{eqb}
-use borrow.Author.Tests.{eq-eqb, ne-eqb, eqb-true, eqb-false}
+use mathlib.Core.Path.{_≡_, refl, sym, _∙_}
+use mathlib.Core.List.{List}
 use Rattle.wire.specs.declared.fault.Refusal.{Refusal}
 use Rattle.wire.specs.declared.choice.Choice.{Choice}
 use Rattle.wire.specs.declared.choice.Choice.the-variants.{The}
-use Rattle.wire.specs.declared.span.Span.{Span}
-use Rattle.wire.specs.declared.read.SpanRead.{SpanRead}
-use Rattle.wire.specs.Answers.{lenOf, spanPart, spanAnswer}
-use Rattle.wire.specs.Layout.{plain, stop}
-use Rattle.wire.specs.Reading.{span, tag, Ans, Parsed, parsed, refused, also, piece, read}
-use Rattle.wire.proofs.Steps.{next-found, parsed-same}
-use Rattle.wire.proofs.Search.{known, Shows, shown, by-whole, front-no, chosen, rests}
-use Rattle.format.specs.Kinds.{digestOf, tpmuHaArm, tpmuAsymSchemeTable, tpmuAsymSchemeArm, tpmuSigSchemeTable, tpmuSigSchemeArm, tpmsSchemeHash, tpmuHaBody, tpmuHa, tpmuSigSchemeBody, tpmuSigScheme}
-use Rattle.format.specs.declared.codes.DigestLen.{DigestLen}
-use Rattle.format.specs.Answers.{digestChoice}
+use Rattle.wire.specs.Reading.{tag, refused, read}
+use Rattle.wire.proofs.Search.{Shows, shown, front-no, chosen}
+use Rattle.format.specs.Kinds.{tpmuAsymSchemeTable, tpmuAsymSchemeArm, tpmuSigSchemeTable, tpmuSigSchemeArm, tpmsSchemeHash, tpmuSigSchemeBody, tpmuSigScheme}
 use Rattle.format.proofs.Choices.{chosen-has}
-use Rattle.format.proofs.Tables.{digest-body, hash-body}
+use Rattle.format.proofs.Tables.{hash-body}
 
 -- an arm of the asymmetric schemes that is not empty holds a hash
 pub asym-hash : {a : Choice} {t : ℕ} (v : ℕ) → a ≡ The t → a ≡ tpmuAsymSchemeArm v → (t ≡ 0 → ⊥) → t ≡ 1
@@ -37,42 +27,3 @@ pub sig-refused : {a : Choice} {t : ℕ} {f : Refusal} (v : ℕ) (src : List ℕ
     → a ≡ The t → a ≡ tpmuSigSchemeArm v → (t ≡ 0 → ⊥) → Shows (refused f) (read tpmsSchemeHash src at) → refused f ≡ read (tpmuSigScheme v) src at
 unfolding tpmuSigScheme
 sig-refused {t = t} v src at q p h e = shown (chosen tpmuSigSchemeArm tpmuSigSchemeBody t v src at q p refl (rw (hash-body v t (sym p ∙ q) h) (front-no (tag t) e)))
-
--- a digest's arm holds as many bytes as its algorithm has
-pub digest-held : {a : DigestLen} {n : ℕ} {z : Ans Parsed} (v : ℕ) (src : List ℕ) (at : ℕ)
-    → a ≡ DigestLen.Bytes n → digestChoice a ≡ tpmuHaArm v → Shows z (also (tag (digestOf n)) (read (plain n stop) src at)) → Shows z (read (tpmuHa v) src at)
-unfolding tpmuHa
-digest-held {n = n} v src at q p s =
-    let arm = ap digestChoice q in
-    chosen tpmuHaArm tpmuHaBody (digestOf n) v src at arm p refl (rw (digest-body v (sym p ∙ arm)) s)
-
--- plain bytes that were read are as many as were asked for
-pub plain-length : (n : ℕ) (src : List ℕ) (at : ℕ) {a l e : ℕ} → parsed (span a l ∷ []) e ≡ read (plain n stop) src at → n ≡ l
-unfolding read
-plain-length n src at p =
-    let (xs, e, q) = next-found (piece n src at) _ (sym p) in
-    let (parts, stops) = parsed-same q in
-    cc
-
--- so a digest that was read is the arm of its length
-pub digest-found : {a : DigestLen} {b : SpanRead} {n e : ℕ} {s : Span} (v : ℕ) (src : List ℕ) (at : ℕ)
-    → a ≡ DigestLen.Bytes n → digestChoice a ≡ tpmuHaArm v → b ≡ SpanRead.Found s e → spanAnswer b ≡ read (plain n stop) src at
-    → parsed (tag (digestOf (lenOf s)) ∷ spanPart s ∷ []) e ≡ read (tpmuHa v) src at
-unfolding tpmuHa
-digest-found {n = n} {e} {s} v src at q p k h =
-    ap (λ l. parsed (tag (digestOf l) ∷ spanPart s ∷ []) e) (sym (plain-length n src at (known spanAnswer k h refl)))
-    ∙ shown (search (digest-held, by-whole spanAnswer, rests))
-
--- two lengths are equal when their digests' arms are; and no digest's arm is the empty one
-pub digest-due : {r l : ℕ} (n : ℕ) → r ≡ l → eqb r n ≡ eqb (suc l) (suc n)
-digest-due {r} {l} n e = rw e (go (eqb l n) refl)
-  where
-    go : (b : Bool) → eqb l n ≡ b → eqb l n ≡ eqb (suc l) (suc n)
-    go true p = rw (eqb-true l n p, eq-eqb n n refl, eq-eqb (suc n) (suc n) refl)
-    go false p = let other = eqb-false l n p in rw (ne-eqb l n other, ne-eqb (suc l) (suc n) (λ e. omega arith))
-
-pub digest-missing : (n : ℕ) → false ≡ eqb 0 (suc n)
-digest-missing n = sym (ne-eqb 0 (suc n) (λ e. omega arith))
-
-pub digest-not-due : (n : ℕ) → false ≡ eqb (suc n) 0
-digest-not-due n = sym (ne-eqb (suc n) 0 (λ e. omega arith))

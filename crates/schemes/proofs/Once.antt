@@ -1,51 +1,28 @@
 -- The parts of each type determine it, and no two answers of this crate mean the same. Assumes nothing.
-use Prim.Native.Nat.{zero, suc}
 use mathlib.Core.Path.{refl}
-use mathlib.Core.List.{List, [], _∷_}
-use Rattle.wire.proofs.Once.{Injective, Once, number-once, span-once, both, fields, holds, bare, tagged, union, answers}
-use Rattle.format.specs.Codes.{hmac, aes, mgf1, xor, null, sm4, kdf1-sp800-56a, kdf2, kdf1-sp800-108, camellia}
+use mathlib.Core.List.{[], _∷_}
+use Rattle.wire.proofs.Once.{Injective, Once, both, fields, holds, bare, union, answers}
+use Rattle.format.specs.Codes.{hmac, mgf1, xor, null, kdf1-sp800-56a, kdf2, kdf1-sp800-108}
 use Rattle.format.specs.Kinds.{empty, hash, hmacHash}
 use Rattle.format.proofs.Once.{alg-once}
-use Rattle.schemes.specs.declared.tpms.TpmsSchemeHash.{TpmsSchemeHash}
-use Rattle.schemes.specs.declared.tpms.TpmsSchemeXor.{TpmsSchemeXor}
-use Rattle.schemes.specs.declared.tpms.TpmsPcrSelection.{TpmsPcrSelection}
 use Rattle.schemes.specs.declared.tpms.TpmsSchemeHashRead.{TpmsSchemeHashRead}
 use Rattle.schemes.specs.declared.tpms.TpmsSchemeXorRead.{TpmsSchemeXorRead}
-use Rattle.schemes.specs.declared.tpms.TpmsPcrSelectionRead.{TpmsPcrSelectionRead}
-use Rattle.schemes.specs.declared.list.TpmlPcrSelection.{TpmlPcrSelection}
-use Rattle.schemes.specs.declared.list.TpmlPcrSelectionRead.{TpmlPcrSelectionRead}
-use Rattle.schemes.specs.declared.tpmu.TpmuHa.{TpmuHa}
 use Rattle.schemes.specs.declared.tpmu.TpmuAsymScheme.{TpmuAsymScheme}
 use Rattle.schemes.specs.declared.tpmu.TpmuSigScheme.{TpmuSigScheme}
 use Rattle.schemes.specs.declared.tpmu.TpmuKeyedhashScheme.{TpmuKeyedhashScheme}
 use Rattle.schemes.specs.declared.tpmu.TpmuKdfScheme.{TpmuKdfScheme}
-use Rattle.schemes.specs.declared.tpmu.TpmuSymKeyBits.{TpmuSymKeyBits}
-use Rattle.schemes.specs.declared.tpmu.TpmuSymMode.{TpmuSymMode}
-use Rattle.schemes.specs.declared.tpmu.TpmuHaRead.{TpmuHaRead}
 use Rattle.schemes.specs.declared.tpmu.TpmuAsymSchemeRead.{TpmuAsymSchemeRead}
 use Rattle.schemes.specs.declared.tpmu.TpmuSigSchemeRead.{TpmuSigSchemeRead}
 use Rattle.schemes.specs.declared.tpmu.TpmuKeyedhashSchemeRead.{TpmuKeyedhashSchemeRead}
 use Rattle.schemes.specs.declared.tpmu.TpmuKdfSchemeRead.{TpmuKdfSchemeRead}
-use Rattle.schemes.specs.declared.tpmu.TpmuSymKeyBitsRead.{TpmuSymKeyBitsRead}
-use Rattle.schemes.specs.declared.tpmu.TpmuSymModeRead.{TpmuSymModeRead}
-use Rattle.schemes.specs.declared.tpmt.TpmtHa.{TpmtHa}
-use Rattle.schemes.specs.declared.tpmt.TpmtSymDef.{TpmtSymDef}
-use Rattle.schemes.specs.declared.tpmt.TpmtKdfScheme.{TpmtKdfScheme}
-use Rattle.schemes.specs.declared.tpmt.TpmtKeyedhashScheme.{TpmtKeyedhashScheme}
-use Rattle.schemes.specs.declared.tpmt.TpmtSigScheme.{TpmtSigScheme}
-use Rattle.schemes.specs.declared.tpmt.TpmtRsaScheme.{TpmtRsaScheme}
-use Rattle.schemes.specs.declared.tpmt.TpmtEccScheme.{TpmtEccScheme}
-use Rattle.schemes.specs.declared.tpmt.TpmtRsaDecrypt.{TpmtRsaDecrypt}
-use Rattle.schemes.specs.declared.tpmt.TpmtHaRead.{TpmtHaRead}
-use Rattle.schemes.specs.declared.tpmt.TpmtSymDefRead.{TpmtSymDefRead}
 use Rattle.schemes.specs.declared.tpmt.TpmtKdfSchemeRead.{TpmtKdfSchemeRead}
 use Rattle.schemes.specs.declared.tpmt.TpmtKeyedhashSchemeRead.{TpmtKeyedhashSchemeRead}
 use Rattle.schemes.specs.declared.tpmt.TpmtSigSchemeRead.{TpmtSigSchemeRead}
 use Rattle.schemes.specs.declared.tpmt.TpmtRsaSchemeRead.{TpmtRsaSchemeRead}
 use Rattle.schemes.specs.declared.tpmt.TpmtEccSchemeRead.{TpmtEccSchemeRead}
 use Rattle.schemes.specs.declared.tpmt.TpmtRsaDecryptRead.{TpmtRsaDecryptRead}
-use Rattle.schemes.specs.Parts.{tpmsSchemeHashParts, tpmsSchemeXorParts, tpmsPcrSelectionParts, tpmlPcrSelectionParts, tpmuHaParts, tpmuAsymSchemeParts, tpmuSigSchemeParts, tpmuKeyedhashSchemeParts, tpmuKdfSchemeParts, tpmuSymKeyBitsParts, tpmuSymModeParts, tpmtHaParts, tpmtSymDefParts, tpmtKdfSchemeParts, tpmtKeyedhashSchemeParts, tpmtSigSchemeParts, tpmtRsaSchemeParts, tpmtEccSchemeParts, tpmtRsaDecryptParts}
-use Rattle.schemes.specs.Answers.{tpmsSchemeHashAnswer, tpmsSchemeXorAnswer, tpmsPcrSelectionAnswer, tpmlPcrSelectionAnswer, tpmuHaAnswer, tpmuAsymSchemeAnswer, tpmuSigSchemeAnswer, tpmuKeyedhashSchemeAnswer, tpmuKdfSchemeAnswer, tpmuSymKeyBitsAnswer, tpmuSymModeAnswer, tpmtHaAnswer, tpmtSymDefAnswer, tpmtKdfSchemeAnswer, tpmtKeyedhashSchemeAnswer, tpmtSigSchemeAnswer, tpmtRsaSchemeAnswer, tpmtEccSchemeAnswer, tpmtRsaDecryptAnswer}
+use Rattle.schemes.specs.Parts.{tpmsSchemeHashParts, tpmsSchemeXorParts, tpmuAsymSchemeParts, tpmuSigSchemeParts, tpmuKeyedhashSchemeParts, tpmuKdfSchemeParts, tpmtKdfSchemeParts, tpmtKeyedhashSchemeParts, tpmtSigSchemeParts, tpmtRsaSchemeParts, tpmtEccSchemeParts, tpmtRsaDecryptParts}
+use Rattle.schemes.specs.Answers.{tpmsSchemeHashAnswer, tpmsSchemeXorAnswer, tpmuAsymSchemeAnswer, tpmuSigSchemeAnswer, tpmuKeyedhashSchemeAnswer, tpmuKdfSchemeAnswer, tpmtKdfSchemeAnswer, tpmtKeyedhashSchemeAnswer, tpmtSigSchemeAnswer, tpmtRsaSchemeAnswer, tpmtEccSchemeAnswer, tpmtRsaDecryptAnswer}
 
 -- ---- structures that schemes hold
 
@@ -55,20 +32,7 @@ scheme-hash-once = fields (λ s. s .«hash_alg») (λ f. record { «hash_alg» =
 pub scheme-xor-once : Once tpmsSchemeXorParts
 scheme-xor-once = fields (λ s. (s .«hash_alg», s .kdf)) (λ (a, b). record { «hash_alg» = a; kdf = b }) (λ s. refl) (both alg-once alg-once)
 
-pub pcr-selection-once : Once tpmsPcrSelectionParts
-pcr-selection-once = fields (λ s. (s .hash, s .«pcr_select»)) (λ (a, b). record { hash = a; «pcr_select» = b }) (λ s. refl) (both alg-once span-once)
-
-pub pcr-selections-once : Once tpmlPcrSelectionParts
-pcr-selections-once = fields (λ s. s .items) (λ f. record { items = f }) (λ s. refl) span-once
-
 -- ---- unions
-
--- a digest has an arm for each length
-pub digest-once : Once tpmuHaParts
-digest-once = record {
-  take = tagged (elim [ zero ↦ bare zero TpmuHa.Null .take | suc n ↦ holds (suc n) TpmuHa.Digest span-once .take ]);
-  back = λ u qs. elim u [ TpmuHa.Null ↦ refl | TpmuHa.Digest s ↦ rw (span-once .back s qs) ];
-}
 
 pub asym-once : Once tpmuAsymSchemeParts
 asym-once =
@@ -124,47 +88,7 @@ kdf-once =
       | TpmuKdfScheme.Null ↦ refl
     ])
 
-pub key-bits-once : Once tpmuSymKeyBitsParts
-key-bits-once =
-    union
-    (holds aes TpmuSymKeyBits.Aes number-once
-    ∷ holds sm4 TpmuSymKeyBits.Sm4 number-once
-    ∷ holds camellia TpmuSymKeyBits.Camellia number-once
-    ∷ holds xor TpmuSymKeyBits.Xor alg-once
-    ∷ bare null TpmuSymKeyBits.Null
-    ∷ [])
-    (λ u qs. elim u [
-      | TpmuSymKeyBits.Aes x ↦ rw (number-once .back x qs)
-      | TpmuSymKeyBits.Sm4 x ↦ rw (number-once .back x qs)
-      | TpmuSymKeyBits.Camellia x ↦ rw (number-once .back x qs)
-      | TpmuSymKeyBits.Xor x ↦ rw (alg-once .back x qs)
-      | TpmuSymKeyBits.Null ↦ refl
-    ])
-
-pub mode-once : Once tpmuSymModeParts
-mode-once =
-    union
-    (holds aes TpmuSymMode.Aes alg-once
-    ∷ holds sm4 TpmuSymMode.Sm4 alg-once
-    ∷ holds camellia TpmuSymMode.Camellia alg-once
-    ∷ holds xor TpmuSymMode.Xor alg-once
-    ∷ bare null TpmuSymMode.Null
-    ∷ [])
-    (λ u qs. elim u [
-      | TpmuSymMode.Aes x ↦ rw (alg-once .back x qs)
-      | TpmuSymMode.Sm4 x ↦ rw (alg-once .back x qs)
-      | TpmuSymMode.Camellia x ↦ rw (alg-once .back x qs)
-      | TpmuSymMode.Xor x ↦ rw (alg-once .back x qs)
-      | TpmuSymMode.Null ↦ refl
-    ])
-
--- ---- kinds 1 to 8
-
-pub ha-once : Once tpmtHaParts
-ha-once = fields (λ s. (s .«hash_alg», s .digest)) (λ (a, b). record { «hash_alg» = a; digest = b }) (λ s. refl) (both alg-once digest-once)
-
-pub sym-def-once : Once tpmtSymDefParts
-sym-def-once = fields (λ s. (s .algorithm, (s .«key_bits», s .mode))) (λ (a, (k, m)). record { algorithm = a; «key_bits» = k; mode = m }) (λ s. refl) (both alg-once (both key-bits-once mode-once))
+-- ---- kinds 3 to 8
 
 pub kdf-scheme-once : Once tpmtKdfSchemeParts
 kdf-scheme-once = fields (λ s. (s .scheme, s .details)) (λ (a, d). record { scheme = a; details = d }) (λ s. refl) (both alg-once kdf-once)
@@ -192,15 +116,6 @@ scheme-hash-answer-once = answers scheme-hash-once TpmsSchemeHashRead.Found Tpms
 pub scheme-xor-answer-once : Injective tpmsSchemeXorAnswer
 scheme-xor-answer-once = answers scheme-xor-once TpmsSchemeXorRead.Found TpmsSchemeXorRead.No tpmsSchemeXorAnswer (λ back. elim [ TpmsSchemeXorRead.Found x e ↦ back x e | TpmsSchemeXorRead.No f ↦ refl ])
 
-pub pcr-selection-answer-once : Injective tpmsPcrSelectionAnswer
-pcr-selection-answer-once = answers pcr-selection-once TpmsPcrSelectionRead.Found TpmsPcrSelectionRead.No tpmsPcrSelectionAnswer (λ back. elim [ TpmsPcrSelectionRead.Found x e ↦ back x e | TpmsPcrSelectionRead.No f ↦ refl ])
-
-pub pcr-selections-answer-once : Injective tpmlPcrSelectionAnswer
-pcr-selections-answer-once = answers pcr-selections-once TpmlPcrSelectionRead.Found TpmlPcrSelectionRead.No tpmlPcrSelectionAnswer (λ back. elim [ TpmlPcrSelectionRead.Found x e ↦ back x e | TpmlPcrSelectionRead.No f ↦ refl ])
-
-pub digest-answer-once : Injective tpmuHaAnswer
-digest-answer-once = answers digest-once TpmuHaRead.Found TpmuHaRead.No tpmuHaAnswer (λ back. elim [ TpmuHaRead.Found x e ↦ back x e | TpmuHaRead.No f ↦ refl ])
-
 pub asym-answer-once : Injective tpmuAsymSchemeAnswer
 asym-answer-once = answers asym-once TpmuAsymSchemeRead.Found TpmuAsymSchemeRead.No tpmuAsymSchemeAnswer (λ back. elim [ TpmuAsymSchemeRead.Found x e ↦ back x e | TpmuAsymSchemeRead.No f ↦ refl ])
 
@@ -212,18 +127,6 @@ keyedhash-answer-once = answers keyedhash-once TpmuKeyedhashSchemeRead.Found Tpm
 
 pub kdf-answer-once : Injective tpmuKdfSchemeAnswer
 kdf-answer-once = answers kdf-once TpmuKdfSchemeRead.Found TpmuKdfSchemeRead.No tpmuKdfSchemeAnswer (λ back. elim [ TpmuKdfSchemeRead.Found x e ↦ back x e | TpmuKdfSchemeRead.No f ↦ refl ])
-
-pub key-bits-answer-once : Injective tpmuSymKeyBitsAnswer
-key-bits-answer-once = answers key-bits-once TpmuSymKeyBitsRead.Found TpmuSymKeyBitsRead.No tpmuSymKeyBitsAnswer (λ back. elim [ TpmuSymKeyBitsRead.Found x e ↦ back x e | TpmuSymKeyBitsRead.No f ↦ refl ])
-
-pub mode-answer-once : Injective tpmuSymModeAnswer
-mode-answer-once = answers mode-once TpmuSymModeRead.Found TpmuSymModeRead.No tpmuSymModeAnswer (λ back. elim [ TpmuSymModeRead.Found x e ↦ back x e | TpmuSymModeRead.No f ↦ refl ])
-
-pub ha-answer-once : Injective tpmtHaAnswer
-ha-answer-once = answers ha-once TpmtHaRead.Found TpmtHaRead.No tpmtHaAnswer (λ back. elim [ TpmtHaRead.Found x e ↦ back x e | TpmtHaRead.No f ↦ refl ])
-
-pub sym-def-answer-once : Injective tpmtSymDefAnswer
-sym-def-answer-once = answers sym-def-once TpmtSymDefRead.Found TpmtSymDefRead.No tpmtSymDefAnswer (λ back. elim [ TpmtSymDefRead.Found x e ↦ back x e | TpmtSymDefRead.No f ↦ refl ])
 
 pub kdf-scheme-answer-once : Injective tpmtKdfSchemeAnswer
 kdf-scheme-answer-once = answers kdf-scheme-once TpmtKdfSchemeRead.Found TpmtKdfSchemeRead.No tpmtKdfSchemeAnswer (λ back. elim [ TpmtKdfSchemeRead.Found x e ↦ back x e | TpmtKdfSchemeRead.No f ↦ refl ])

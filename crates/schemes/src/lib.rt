@@ -1,5 +1,4 @@
-// Digests, ciphers, schemes and PCR selections: kinds 1 to 8 and 14. Files and names are the Rust crate's.
-pub mod list;
+// Schemes: kinds 3 to 8. Files and names are the Rust crate's.
 pub mod tpms;
 pub mod tpmt;
 pub mod tpmu;

@@ -1,15 +1,15 @@
 // The structures that schemes hold.
 use format::codes::TpmAlgId;
 use format::codes::TpmAlgIdRead;
+use steps::walk::Walk;
 use wire::fault::Refusal;
-use wire::read::SpanRead;
-use wire::read::buffer;
-use wire::span::Span;
-use wire::width::Width;
 ghost use mathlib.Core.Path.{_≡_};
+ghost use mathlib.Core.List.{[]};
 ghost use Rattle.wire.specs.Reading.{read};
-ghost use Rattle.format.specs.Kinds.{tpmsSchemeHash, tpmsSchemeXor, tpmsPcrSelection};
-ghost use Rattle.schemes.specs.Answers.{tpmsSchemeHashAnswer, tpmsSchemeXorAnswer, tpmsPcrSelectionAnswer};
+ghost use Rattle.format.specs.Kinds.{tpmsSchemeHash, tpmsSchemeXor};
+ghost use Rattle.steps.specs.Walks.{here, Walks};
+ghost use Rattle.schemes.specs.Answers.{tpmsSchemeHashAnswer, tpmsSchemeXorAnswer};
+ghost use Rattle.schemes.specs.Parts.{tpmsSchemeHashParts, tpmsSchemeXorParts};
 
 pub struct TpmsSchemeHash {
     pub hash_alg: TpmAlgId,
@@ -22,12 +22,6 @@ pub struct TpmsSchemeXor {
     pub kdf: TpmAlgId,
 }
 
-// An item of the PCR selection list: a bank, and the bits of its registers.
-pub struct TpmsPcrSelection {
-    pub hash: TpmAlgId,
-    pub pcr_select: Span,
-}
-
 pub enum TpmsSchemeHashRead {
     Found(TpmsSchemeHash, usize),
     No(Refusal),
@@ -35,11 +29,6 @@ pub enum TpmsSchemeHashRead {
 
 pub enum TpmsSchemeXorRead {
     Found(TpmsSchemeXor, usize),
-    No(Refusal),
-}
-
-pub enum TpmsPcrSelectionRead {
-    Found(TpmsPcrSelection, usize),
     No(Refusal),
 }
 
@@ -57,6 +46,13 @@ impl TpmsSchemeHash {
             TpmAlgIdRead::No(f) => return TpmsSchemeHashRead::No(f),
         };
         TpmsSchemeHashRead::Found(TpmsSchemeHash { hash_alg: hash_alg }, end)
+    }
+
+    pub fn walk(self, w: Walk, src: &[u8], out: &mut [u8]) -> Walk
+        ensures { λ r. ⌜ Walks 1 tpmsSchemeHash (tpmsSchemeHashParts self) [] (now (src .entry)) (here w (now (out .entry))) (here r (now (out .exit))) ⌝ }
+    {
+        let hash_alg = self.hash_alg;
+        w.algorithm(hash_alg, out)
     }
 }
 
@@ -88,34 +84,12 @@ impl TpmsSchemeXor {
             end,
         )
     }
-}
 
-impl TpmsPcrSelection {
-    // TPMS_PCR_SELECTION, read.
-    pub fn unmarshal(s: &[u8], at: usize) -> TpmsPcrSelectionRead
-        ensures { λ r. ⌜ tpmsPcrSelectionAnswer r ≡ read tpmsPcrSelection (now (s .entry)) at ⌝ }
+    pub fn walk(self, w: Walk, src: &[u8], out: &mut [u8]) -> Walk
+        ensures { λ r. ⌜ Walks 2 tpmsSchemeXor (tpmsSchemeXorParts self) [] (now (src .entry)) (here w (now (out .entry))) (here r (now (out .exit))) ⌝ }
     {
-        let mut end = at;
-        let hash = match TpmAlgId::unmarshal(s, end) {
-            TpmAlgIdRead::Found(v, e) => {
-                end = e;
-                v
-            }
-            TpmAlgIdRead::No(f) => return TpmsPcrSelectionRead::No(f),
-        };
-        let pcr_select = match buffer(s, end, Width::One, 4) {
-            SpanRead::Found(v, e) => {
-                end = e;
-                v
-            }
-            SpanRead::No(f) => return TpmsPcrSelectionRead::No(f),
-        };
-        TpmsPcrSelectionRead::Found(
-            TpmsPcrSelection {
-                hash: hash,
-                pcr_select: pcr_select,
-            },
-            end,
-        )
+        let hash_alg = self.hash_alg;
+        let kdf = self.kdf;
+        w.algorithm(hash_alg, out).algorithm(kdf, out)
     }
 }

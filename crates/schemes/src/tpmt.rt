@@ -1,38 +1,31 @@
-// Kinds 1 to 8: a selector, and the union that it chooses from.
+// Kinds 3 to 8: a selector, and the union that it chooses from. Each has the calls that a kind has (ciphers, tpmt.rt).
 use crate::tpmu::TpmuAsymScheme;
 use crate::tpmu::TpmuAsymSchemeRead;
-use crate::tpmu::TpmuHa;
-use crate::tpmu::TpmuHaRead;
 use crate::tpmu::TpmuKdfScheme;
 use crate::tpmu::TpmuKdfSchemeRead;
 use crate::tpmu::TpmuKeyedhashScheme;
 use crate::tpmu::TpmuKeyedhashSchemeRead;
 use crate::tpmu::TpmuSigScheme;
 use crate::tpmu::TpmuSigSchemeRead;
-use crate::tpmu::TpmuSymKeyBits;
-use crate::tpmu::TpmuSymKeyBitsRead;
-use crate::tpmu::TpmuSymMode;
-use crate::tpmu::TpmuSymModeRead;
 use format::codes::TpmAlgId;
 use format::codes::TpmAlgIdRead;
+use steps::walk::Walk;
+use steps::walk::judging;
+use steps::walk::seeking;
 use wire::fault::Refusal;
+use wire::measure::Measure;
+use wire::read::nothing_behind;
 ghost use mathlib.Core.Path.{_≡_};
-ghost use Rattle.wire.specs.Reading.{read};
-ghost use Rattle.format.specs.Kinds.{tpmtHa, tpmtSymDef, tpmtKdfScheme, tpmtKeyedhashScheme, tpmtSigScheme, tpmtAsymScheme};
-ghost use Rattle.schemes.specs.Answers.{tpmtHaAnswer, tpmtSymDefAnswer, tpmtKdfSchemeAnswer, tpmtKeyedhashSchemeAnswer, tpmtSigSchemeAnswer, tpmtRsaSchemeAnswer, tpmtEccSchemeAnswer, tpmtRsaDecryptAnswer};
-
-pub struct TpmtHa {
-    pub hash_alg: TpmAlgId,
-    pub digest: TpmuHa,
-}
-
-pub struct TpmtSymDef {
-    pub algorithm: TpmAlgId,
-    pub key_bits: TpmuSymKeyBits,
-    pub mode: TpmuSymMode,
-}
-
-pub type TpmtSymDefObject = TpmtSymDef;
+ghost use mathlib.Core.List.{[]};
+ghost use Rattle.wire.specs.Faults.{noField};
+ghost use Rattle.wire.specs.Reading.{read, readWhole, refused};
+ghost use Rattle.wire.specs.Answers.{measureAnswer};
+ghost use Rattle.wire.specs.Fields.{partOf, sizeOf, fieldOf};
+ghost use Rattle.format.specs.Kinds.{tpmtKdfScheme, tpmtKeyedhashScheme, tpmtSigScheme, tpmtAsymScheme};
+ghost use Rattle.steps.specs.Walks.{here, Walks};
+ghost use Rattle.steps.specs.Writes.{Writes};
+ghost use Rattle.schemes.specs.Answers.{tpmtKdfSchemeAnswer, tpmtKeyedhashSchemeAnswer, tpmtSigSchemeAnswer, tpmtRsaSchemeAnswer, tpmtEccSchemeAnswer, tpmtRsaDecryptAnswer};
+ghost use Rattle.schemes.specs.Parts.{tpmtKdfSchemeParts, tpmtKeyedhashSchemeParts, tpmtSigSchemeParts, tpmtRsaSchemeParts, tpmtEccSchemeParts, tpmtRsaDecryptParts};
 
 pub struct TpmtKdfScheme {
     pub scheme: TpmAlgId,
@@ -62,16 +55,6 @@ pub struct TpmtEccScheme {
 pub struct TpmtRsaDecrypt {
     pub scheme: TpmAlgId,
     pub details: TpmuAsymScheme,
-}
-
-pub enum TpmtHaRead {
-    Found(TpmtHa, usize),
-    No(Refusal),
-}
-
-pub enum TpmtSymDefRead {
-    Found(TpmtSymDef, usize),
-    No(Refusal),
 }
 
 pub enum TpmtKdfSchemeRead {
@@ -104,74 +87,6 @@ pub enum TpmtRsaDecryptRead {
     No(Refusal),
 }
 
-impl TpmtHa {
-    // Kind 1, TPMT_HA, read.
-    pub fn unmarshal(s: &[u8], at: usize) -> TpmtHaRead
-        ensures { λ r. ⌜ tpmtHaAnswer r ≡ read tpmtHa (now (s .entry)) at ⌝ }
-    {
-        let mut end = at;
-        let hash_alg = match TpmAlgId::unmarshal(s, end) {
-            TpmAlgIdRead::Found(v, e) => {
-                end = e;
-                v
-            }
-            TpmAlgIdRead::No(f) => return TpmtHaRead::No(f),
-        };
-        let digest = match TpmuHa::unmarshal_tagged(hash_alg, s, end) {
-            TpmuHaRead::Found(v, e) => {
-                end = e;
-                v
-            }
-            TpmuHaRead::No(f) => return TpmtHaRead::No(f),
-        };
-        TpmtHaRead::Found(
-            TpmtHa {
-                hash_alg: hash_alg,
-                digest: digest,
-            },
-            end,
-        )
-    }
-}
-
-impl TpmtSymDef {
-    // Kind 2, TPMT_SYM_DEF, read. Behind a Null cipher there are neither key bits nor a mode.
-    pub fn unmarshal(s: &[u8], at: usize) -> TpmtSymDefRead
-        ensures { λ r. ⌜ tpmtSymDefAnswer r ≡ read tpmtSymDef (now (s .entry)) at ⌝ }
-    {
-        let mut end = at;
-        let algorithm = match TpmAlgId::unmarshal(s, end) {
-            TpmAlgIdRead::Found(v, e) => {
-                end = e;
-                v
-            }
-            TpmAlgIdRead::No(f) => return TpmtSymDefRead::No(f),
-        };
-        let key_bits = match TpmuSymKeyBits::unmarshal_tagged(algorithm, s, end) {
-            TpmuSymKeyBitsRead::Found(v, e) => {
-                end = e;
-                v
-            }
-            TpmuSymKeyBitsRead::No(f) => return TpmtSymDefRead::No(f),
-        };
-        let mode = match TpmuSymMode::unmarshal_tagged(algorithm, s, end) {
-            TpmuSymModeRead::Found(v, e) => {
-                end = e;
-                v
-            }
-            TpmuSymModeRead::No(f) => return TpmtSymDefRead::No(f),
-        };
-        TpmtSymDefRead::Found(
-            TpmtSymDef {
-                algorithm: algorithm,
-                key_bits: key_bits,
-                mode: mode,
-            },
-            end,
-        )
-    }
-}
-
 impl TpmtKdfScheme {
     // Kind 3, TPMT_KDF_SCHEME, read.
     pub fn unmarshal(s: &[u8], at: usize) -> TpmtKdfSchemeRead
@@ -199,6 +114,60 @@ impl TpmtKdfScheme {
             },
             end,
         )
+    }
+
+    pub fn whole(s: &[u8], at: usize) -> TpmtKdfSchemeRead
+        ensures { λ r. ⌜ tpmtKdfSchemeAnswer r ≡ readWhole tpmtKdfScheme (now (s .entry)) at ⌝ }
+    {
+        match TpmtKdfScheme::unmarshal(s, at) {
+            TpmtKdfSchemeRead::Found(x, e) => match nothing_behind(s, e) {
+                Measure::Size(_) => TpmtKdfSchemeRead::Found(x, e),
+                Measure::No(f) => TpmtKdfSchemeRead::No(f),
+            },
+            TpmtKdfSchemeRead::No(f) => TpmtKdfSchemeRead::No(f),
+        }
+    }
+
+    pub fn walk(self, w: Walk, src: &[u8], out: &mut [u8]) -> Walk
+        ensures { λ r. ⌜ Walks 3 tpmtKdfScheme (tpmtKdfSchemeParts self) [] (now (src .entry)) (here w (now (out .entry))) (here r (now (out .exit))) ⌝ }
+    {
+        let scheme = self.scheme;
+        let details = self.details;
+        details.walk_tagged(scheme, w.algorithm(scheme, out), src, out)
+    }
+
+    pub fn marshal(self, src: &[u8], out: &mut [u8]) -> Measure
+        ensures { λ r. ⌜ Writes tpmtKdfScheme (tpmtKdfSchemeParts self) (now (src .entry)) (now (out .entry)) r (now (out .exit)) ⌝ }
+    {
+        let judged = self.walk(judging(0), src, out);
+        self.walk(judged.ready(out.len()), src, out).answer()
+    }
+
+    pub fn field<'a>(self, s: &'a [u8], index: usize) -> &'a [u8]
+        ensures { λ r. ⌜ now r ≡ partOf (fieldOf (tpmtKdfSchemeParts self) index (now (s .entry))) ⌝ }
+    {
+        let mut none = [0u8; 1];
+        self.walk(seeking(index), s, &mut none).part(s)
+    }
+
+    pub fn field_size(self, s: &[u8], index: usize) -> Measure
+        ensures { λ r. ⌜ measureAnswer r ≡ sizeOf (fieldOf (tpmtKdfSchemeParts self) index (now (s .entry))) ⌝ }
+    {
+        let mut none = [0u8; 1];
+        self.walk(seeking(index), s, &mut none).size(s, index)
+    }
+
+    // It has no list.
+    pub fn item<'a>(self, s: &'a [u8], index: usize) -> &'a [u8]
+        ensures { λ r. ⌜ now r ≡ [] ⌝ }
+    {
+        &s[0..0]
+    }
+
+    pub fn item_size(self, s: &[u8], index: usize) -> Measure
+        ensures { λ r. ⌜ measureAnswer r ≡ refused (noField index) ⌝ }
+    {
+        Measure::No(Refusal::no_field(index))
     }
 }
 
@@ -230,6 +199,60 @@ impl TpmtKeyedhashScheme {
             end,
         )
     }
+
+    pub fn whole(s: &[u8], at: usize) -> TpmtKeyedhashSchemeRead
+        ensures { λ r. ⌜ tpmtKeyedhashSchemeAnswer r ≡ readWhole tpmtKeyedhashScheme (now (s .entry)) at ⌝ }
+    {
+        match TpmtKeyedhashScheme::unmarshal(s, at) {
+            TpmtKeyedhashSchemeRead::Found(x, e) => match nothing_behind(s, e) {
+                Measure::Size(_) => TpmtKeyedhashSchemeRead::Found(x, e),
+                Measure::No(f) => TpmtKeyedhashSchemeRead::No(f),
+            },
+            TpmtKeyedhashSchemeRead::No(f) => TpmtKeyedhashSchemeRead::No(f),
+        }
+    }
+
+    pub fn walk(self, w: Walk, src: &[u8], out: &mut [u8]) -> Walk
+        ensures { λ r. ⌜ Walks 4 tpmtKeyedhashScheme (tpmtKeyedhashSchemeParts self) [] (now (src .entry)) (here w (now (out .entry))) (here r (now (out .exit))) ⌝ }
+    {
+        let scheme = self.scheme;
+        let details = self.details;
+        details.walk_tagged(scheme, w.algorithm(scheme, out), src, out)
+    }
+
+    pub fn marshal(self, src: &[u8], out: &mut [u8]) -> Measure
+        ensures { λ r. ⌜ Writes tpmtKeyedhashScheme (tpmtKeyedhashSchemeParts self) (now (src .entry)) (now (out .entry)) r (now (out .exit)) ⌝ }
+    {
+        let judged = self.walk(judging(0), src, out);
+        self.walk(judged.ready(out.len()), src, out).answer()
+    }
+
+    pub fn field<'a>(self, s: &'a [u8], index: usize) -> &'a [u8]
+        ensures { λ r. ⌜ now r ≡ partOf (fieldOf (tpmtKeyedhashSchemeParts self) index (now (s .entry))) ⌝ }
+    {
+        let mut none = [0u8; 1];
+        self.walk(seeking(index), s, &mut none).part(s)
+    }
+
+    pub fn field_size(self, s: &[u8], index: usize) -> Measure
+        ensures { λ r. ⌜ measureAnswer r ≡ sizeOf (fieldOf (tpmtKeyedhashSchemeParts self) index (now (s .entry))) ⌝ }
+    {
+        let mut none = [0u8; 1];
+        self.walk(seeking(index), s, &mut none).size(s, index)
+    }
+
+    // It has no list.
+    pub fn item<'a>(self, s: &'a [u8], index: usize) -> &'a [u8]
+        ensures { λ r. ⌜ now r ≡ [] ⌝ }
+    {
+        &s[0..0]
+    }
+
+    pub fn item_size(self, s: &[u8], index: usize) -> Measure
+        ensures { λ r. ⌜ measureAnswer r ≡ refused (noField index) ⌝ }
+    {
+        Measure::No(Refusal::no_field(index))
+    }
 }
 
 impl TpmtSigScheme {
@@ -259,6 +282,60 @@ impl TpmtSigScheme {
             },
             end,
         )
+    }
+
+    pub fn whole(s: &[u8], at: usize) -> TpmtSigSchemeRead
+        ensures { λ r. ⌜ tpmtSigSchemeAnswer r ≡ readWhole tpmtSigScheme (now (s .entry)) at ⌝ }
+    {
+        match TpmtSigScheme::unmarshal(s, at) {
+            TpmtSigSchemeRead::Found(x, e) => match nothing_behind(s, e) {
+                Measure::Size(_) => TpmtSigSchemeRead::Found(x, e),
+                Measure::No(f) => TpmtSigSchemeRead::No(f),
+            },
+            TpmtSigSchemeRead::No(f) => TpmtSigSchemeRead::No(f),
+        }
+    }
+
+    pub fn walk(self, w: Walk, src: &[u8], out: &mut [u8]) -> Walk
+        ensures { λ r. ⌜ Walks 3 tpmtSigScheme (tpmtSigSchemeParts self) [] (now (src .entry)) (here w (now (out .entry))) (here r (now (out .exit))) ⌝ }
+    {
+        let scheme = self.scheme;
+        let details = self.details;
+        details.walk_tagged(scheme, w.algorithm(scheme, out), src, out)
+    }
+
+    pub fn marshal(self, src: &[u8], out: &mut [u8]) -> Measure
+        ensures { λ r. ⌜ Writes tpmtSigScheme (tpmtSigSchemeParts self) (now (src .entry)) (now (out .entry)) r (now (out .exit)) ⌝ }
+    {
+        let judged = self.walk(judging(0), src, out);
+        self.walk(judged.ready(out.len()), src, out).answer()
+    }
+
+    pub fn field<'a>(self, s: &'a [u8], index: usize) -> &'a [u8]
+        ensures { λ r. ⌜ now r ≡ partOf (fieldOf (tpmtSigSchemeParts self) index (now (s .entry))) ⌝ }
+    {
+        let mut none = [0u8; 1];
+        self.walk(seeking(index), s, &mut none).part(s)
+    }
+
+    pub fn field_size(self, s: &[u8], index: usize) -> Measure
+        ensures { λ r. ⌜ measureAnswer r ≡ sizeOf (fieldOf (tpmtSigSchemeParts self) index (now (s .entry))) ⌝ }
+    {
+        let mut none = [0u8; 1];
+        self.walk(seeking(index), s, &mut none).size(s, index)
+    }
+
+    // It has no list.
+    pub fn item<'a>(self, s: &'a [u8], index: usize) -> &'a [u8]
+        ensures { λ r. ⌜ now r ≡ [] ⌝ }
+    {
+        &s[0..0]
+    }
+
+    pub fn item_size(self, s: &[u8], index: usize) -> Measure
+        ensures { λ r. ⌜ measureAnswer r ≡ refused (noField index) ⌝ }
+    {
+        Measure::No(Refusal::no_field(index))
     }
 }
 
@@ -290,6 +367,60 @@ impl TpmtRsaScheme {
             end,
         )
     }
+
+    pub fn whole(s: &[u8], at: usize) -> TpmtRsaSchemeRead
+        ensures { λ r. ⌜ tpmtRsaSchemeAnswer r ≡ readWhole tpmtAsymScheme (now (s .entry)) at ⌝ }
+    {
+        match TpmtRsaScheme::unmarshal(s, at) {
+            TpmtRsaSchemeRead::Found(x, e) => match nothing_behind(s, e) {
+                Measure::Size(_) => TpmtRsaSchemeRead::Found(x, e),
+                Measure::No(f) => TpmtRsaSchemeRead::No(f),
+            },
+            TpmtRsaSchemeRead::No(f) => TpmtRsaSchemeRead::No(f),
+        }
+    }
+
+    pub fn walk(self, w: Walk, src: &[u8], out: &mut [u8]) -> Walk
+        ensures { λ r. ⌜ Walks 3 tpmtAsymScheme (tpmtRsaSchemeParts self) [] (now (src .entry)) (here w (now (out .entry))) (here r (now (out .exit))) ⌝ }
+    {
+        let scheme = self.scheme;
+        let details = self.details;
+        details.walk_tagged(scheme, w.algorithm(scheme, out), src, out)
+    }
+
+    pub fn marshal(self, src: &[u8], out: &mut [u8]) -> Measure
+        ensures { λ r. ⌜ Writes tpmtAsymScheme (tpmtRsaSchemeParts self) (now (src .entry)) (now (out .entry)) r (now (out .exit)) ⌝ }
+    {
+        let judged = self.walk(judging(0), src, out);
+        self.walk(judged.ready(out.len()), src, out).answer()
+    }
+
+    pub fn field<'a>(self, s: &'a [u8], index: usize) -> &'a [u8]
+        ensures { λ r. ⌜ now r ≡ partOf (fieldOf (tpmtRsaSchemeParts self) index (now (s .entry))) ⌝ }
+    {
+        let mut none = [0u8; 1];
+        self.walk(seeking(index), s, &mut none).part(s)
+    }
+
+    pub fn field_size(self, s: &[u8], index: usize) -> Measure
+        ensures { λ r. ⌜ measureAnswer r ≡ sizeOf (fieldOf (tpmtRsaSchemeParts self) index (now (s .entry))) ⌝ }
+    {
+        let mut none = [0u8; 1];
+        self.walk(seeking(index), s, &mut none).size(s, index)
+    }
+
+    // It has no list.
+    pub fn item<'a>(self, s: &'a [u8], index: usize) -> &'a [u8]
+        ensures { λ r. ⌜ now r ≡ [] ⌝ }
+    {
+        &s[0..0]
+    }
+
+    pub fn item_size(self, s: &[u8], index: usize) -> Measure
+        ensures { λ r. ⌜ measureAnswer r ≡ refused (noField index) ⌝ }
+    {
+        Measure::No(Refusal::no_field(index))
+    }
 }
 
 impl TpmtEccScheme {
@@ -320,6 +451,60 @@ impl TpmtEccScheme {
             end,
         )
     }
+
+    pub fn whole(s: &[u8], at: usize) -> TpmtEccSchemeRead
+        ensures { λ r. ⌜ tpmtEccSchemeAnswer r ≡ readWhole tpmtAsymScheme (now (s .entry)) at ⌝ }
+    {
+        match TpmtEccScheme::unmarshal(s, at) {
+            TpmtEccSchemeRead::Found(x, e) => match nothing_behind(s, e) {
+                Measure::Size(_) => TpmtEccSchemeRead::Found(x, e),
+                Measure::No(f) => TpmtEccSchemeRead::No(f),
+            },
+            TpmtEccSchemeRead::No(f) => TpmtEccSchemeRead::No(f),
+        }
+    }
+
+    pub fn walk(self, w: Walk, src: &[u8], out: &mut [u8]) -> Walk
+        ensures { λ r. ⌜ Walks 3 tpmtAsymScheme (tpmtEccSchemeParts self) [] (now (src .entry)) (here w (now (out .entry))) (here r (now (out .exit))) ⌝ }
+    {
+        let scheme = self.scheme;
+        let details = self.details;
+        details.walk_tagged(scheme, w.algorithm(scheme, out), src, out)
+    }
+
+    pub fn marshal(self, src: &[u8], out: &mut [u8]) -> Measure
+        ensures { λ r. ⌜ Writes tpmtAsymScheme (tpmtEccSchemeParts self) (now (src .entry)) (now (out .entry)) r (now (out .exit)) ⌝ }
+    {
+        let judged = self.walk(judging(0), src, out);
+        self.walk(judged.ready(out.len()), src, out).answer()
+    }
+
+    pub fn field<'a>(self, s: &'a [u8], index: usize) -> &'a [u8]
+        ensures { λ r. ⌜ now r ≡ partOf (fieldOf (tpmtEccSchemeParts self) index (now (s .entry))) ⌝ }
+    {
+        let mut none = [0u8; 1];
+        self.walk(seeking(index), s, &mut none).part(s)
+    }
+
+    pub fn field_size(self, s: &[u8], index: usize) -> Measure
+        ensures { λ r. ⌜ measureAnswer r ≡ sizeOf (fieldOf (tpmtEccSchemeParts self) index (now (s .entry))) ⌝ }
+    {
+        let mut none = [0u8; 1];
+        self.walk(seeking(index), s, &mut none).size(s, index)
+    }
+
+    // It has no list.
+    pub fn item<'a>(self, s: &'a [u8], index: usize) -> &'a [u8]
+        ensures { λ r. ⌜ now r ≡ [] ⌝ }
+    {
+        &s[0..0]
+    }
+
+    pub fn item_size(self, s: &[u8], index: usize) -> Measure
+        ensures { λ r. ⌜ measureAnswer r ≡ refused (noField index) ⌝ }
+    {
+        Measure::No(Refusal::no_field(index))
+    }
 }
 
 impl TpmtRsaDecrypt {
@@ -349,5 +534,59 @@ impl TpmtRsaDecrypt {
             },
             end,
         )
+    }
+
+    pub fn whole(s: &[u8], at: usize) -> TpmtRsaDecryptRead
+        ensures { λ r. ⌜ tpmtRsaDecryptAnswer r ≡ readWhole tpmtAsymScheme (now (s .entry)) at ⌝ }
+    {
+        match TpmtRsaDecrypt::unmarshal(s, at) {
+            TpmtRsaDecryptRead::Found(x, e) => match nothing_behind(s, e) {
+                Measure::Size(_) => TpmtRsaDecryptRead::Found(x, e),
+                Measure::No(f) => TpmtRsaDecryptRead::No(f),
+            },
+            TpmtRsaDecryptRead::No(f) => TpmtRsaDecryptRead::No(f),
+        }
+    }
+
+    pub fn walk(self, w: Walk, src: &[u8], out: &mut [u8]) -> Walk
+        ensures { λ r. ⌜ Walks 3 tpmtAsymScheme (tpmtRsaDecryptParts self) [] (now (src .entry)) (here w (now (out .entry))) (here r (now (out .exit))) ⌝ }
+    {
+        let scheme = self.scheme;
+        let details = self.details;
+        details.walk_tagged(scheme, w.algorithm(scheme, out), src, out)
+    }
+
+    pub fn marshal(self, src: &[u8], out: &mut [u8]) -> Measure
+        ensures { λ r. ⌜ Writes tpmtAsymScheme (tpmtRsaDecryptParts self) (now (src .entry)) (now (out .entry)) r (now (out .exit)) ⌝ }
+    {
+        let judged = self.walk(judging(0), src, out);
+        self.walk(judged.ready(out.len()), src, out).answer()
+    }
+
+    pub fn field<'a>(self, s: &'a [u8], index: usize) -> &'a [u8]
+        ensures { λ r. ⌜ now r ≡ partOf (fieldOf (tpmtRsaDecryptParts self) index (now (s .entry))) ⌝ }
+    {
+        let mut none = [0u8; 1];
+        self.walk(seeking(index), s, &mut none).part(s)
+    }
+
+    pub fn field_size(self, s: &[u8], index: usize) -> Measure
+        ensures { λ r. ⌜ measureAnswer r ≡ sizeOf (fieldOf (tpmtRsaDecryptParts self) index (now (s .entry))) ⌝ }
+    {
+        let mut none = [0u8; 1];
+        self.walk(seeking(index), s, &mut none).size(s, index)
+    }
+
+    // It has no list.
+    pub fn item<'a>(self, s: &'a [u8], index: usize) -> &'a [u8]
+        ensures { λ r. ⌜ now r ≡ [] ⌝ }
+    {
+        &s[0..0]
+    }
+
+    pub fn item_size(self, s: &[u8], index: usize) -> Measure
+        ensures { λ r. ⌜ measureAnswer r ≡ refused (noField index) ⌝ }
+    {
+        Measure::No(Refusal::no_field(index))
     }
 }

@@ -8,7 +8,7 @@ use Rattle.wire.specs.Faults.{noField}
 use Rattle.wire.specs.Layout.{Layout}
 use Rattle.wire.specs.Reading.{Part, num, tag, span, Ans, found, refused}
 use Rattle.wire.specs.Writing.{cut}
-use Rattle.wire.specs.Fields.{spans, pickField, fieldOf}
+use Rattle.wire.specs.Fields.{spans, pickField, fieldOf, partOf, sizeOf}
 use Rattle.format.specs.declared.list.ListOf.{ListOf}
 use Rattle.format.specs.Kinds.{itemLayout, mostItems}
 use Rattle.wire.specs.Items.{itemOf}
@@ -61,3 +61,21 @@ pub listed : {A : Type 0} (g : Ans (List ℕ) → A) (which : ListOf) (k : ℕ) 
     → ((ms : List Part) → pickField ms 0 i src ≡ seekAnswer w i src → x ≡ g (itemOf (mostItems which) (itemLayout which) ms i src)) → x ≡ g (itemOf (mostItems which) (itemLayout which) ls i src)
 listed g which k l ps ls src old last u w x i begin p e =
     listed-item (λ y ms. y ≡ g (itemOf (mostItems which) (itemLayout which) ms i src)) k l ps ls src old last u w x i begin p e
+
+-- ---- the part, and its size
+
+pub sought-part : (k : ℕ) (l : Layout) (ps ls : List Part) (src old last : List ℕ) (u w : Walk) (x : List ℕ) (i : ℕ) → u ≡ seeking i → Walks k l ps ls src (here u old) (here w last)
+    → ((asked : ℕ) → x ≡ partOf (seekAnswer w asked src)) → x ≡ partOf (fieldOf ps i src)
+sought-part k l ps ls src old last u w x i begin p e = sought partOf k l ps ls src old last u w x i begin p (e i)
+
+pub sought-size : (k : ℕ) (l : Layout) (ps ls : List Part) (src old last : List ℕ) (u w : Walk) (x : Ans ℕ) (i : ℕ) → u ≡ seeking i → Walks k l ps ls src (here u old) (here w last)
+    → x ≡ sizeOf (seekAnswer w i src) → x ≡ sizeOf (fieldOf ps i src)
+sought-size k l ps ls src old last u w x i begin p e = sought sizeOf k l ps ls src old last u w x i begin p e
+
+pub listed-part : (which : ListOf) (k : ℕ) (l : Layout) (ps ls : List Part) (src old last : List ℕ) (u w : Walk) (x : List ℕ) (i : ℕ) → u ≡ listSeeking → Walks k l ps ls src (here u old) (here w last)
+    → ((ms : List Part) → pickField ms 0 i src ≡ seekAnswer w i src → x ≡ partOf (itemOf (mostItems which) (itemLayout which) ms i src)) → x ≡ partOf (itemOf (mostItems which) (itemLayout which) ls i src)
+listed-part which k l ps ls src old last u w x i begin p e = listed partOf which k l ps ls src old last u w x i begin p e
+
+pub listed-size : (which : ListOf) (k : ℕ) (l : Layout) (ps ls : List Part) (src old last : List ℕ) (u w : Walk) (x : Ans ℕ) (i : ℕ) → u ≡ listSeeking → Walks k l ps ls src (here u old) (here w last)
+    → ((ms : List Part) → pickField ms 0 i src ≡ seekAnswer w i src → x ≡ sizeOf (itemOf (mostItems which) (itemLayout which) ms i src)) → x ≡ sizeOf (itemOf (mostItems which) (itemLayout which) ls i src)
+listed-size which k l ps ls src old last u w x i begin p e = listed sizeOf which k l ps ls src old last u w x i begin p e

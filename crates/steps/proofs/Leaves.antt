@@ -1,10 +1,10 @@
 -- One step of a walk, in the form in which the code asks for it. Assumes nothing.
-use Prim.Native.Nat.{ℕ, zero, suc, _+_, _-_, _*_, _≤_, _<_}
+use Prim.Native.Nat.{ℕ, zero, suc, _+_, _-_, _≤_, _<_}
 use native.Mathlib.Omega.{arith}
 use mathlib.Core.Path.{_≡_, refl, sym, ap, _∙_}
 use mathlib.Core.Bool.{Bool, true, false, cond}
 use mathlib.Core.List.{List, [], _∷_}
-use lib.ListN.{length, take, drop}
+use lib.ListN.{length}
 use lib.Dec.{leb, eqb}
 use borrow.Author.Tests.{eq-eqb, ne-eqb, le-leb, lt-leb, leb-true}
 use Rattle.wire.specs.declared.choice.Choice.{Choice}
@@ -20,7 +20,7 @@ use Rattle.wire.specs.Writing.{cut}
 use Rattle.wire.specs.Filling.{written, filled}
 use Rattle.wire.proofs.Steps.{found-refused, found-same, when-found}
 use Rattle.steps.specs.declared.walk.Walk.{Walk}
-use Rattle.steps.specs.Steps.{Step, Plain, Buffer, Items, Due, spellStep, stepLines, dueSize}
+use Rattle.steps.specs.Steps.{Step, Plain, Buffer, Due, spellStep, dueSize}
 use Rattle.steps.specs.Near.{Near}
 use Rattle.steps.specs.Walks.{Here, here, judging, putting, seeking, refusing, finding, lining, after, judged, judgeDue, judgeSized, judgeStep, countOf, Moves, putOne, putSpan, putStep, seekSpan, seekStep, listStep, forLines, toPlace, lineStep, stepBy, stepWalk, run, Goes, Dues, readyBy, readyWalk, faultOf, answerBy, walkAnswer}
 

@@ -14,3 +14,4 @@ pub mod Found
 pub mod Marshalled
 pub mod Listed
 pub mod Matches
+pub mod Once

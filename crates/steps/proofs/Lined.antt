@@ -2,7 +2,7 @@
 use Prim.Native.Nat.{ℕ, zero, suc, _+_, _*_, _≤_, _<_}
 use native.Mathlib.Omega.{arith}
 use mathlib.Core.Path.{_≡_, refl, sym, ap, _∙_}
-use mathlib.Core.Bool.{Bool, true, false, cond}
+use mathlib.Core.Bool.{Bool, true, false}
 use mathlib.Core.List.{List, [], _∷_, _++_}
 use lib.ListN.{length, take, drop}
 use lib.Dec.{leb, eqb}
@@ -13,7 +13,7 @@ use Rattle.wire.specs.declared.span.Span.{Span}
 use Rattle.wire.specs.Answers.{startOf, lenOf, measureAnswer}
 use Rattle.wire.specs.Faults.{noRoom}
 use Rattle.wire.specs.Lines.{Says, Line, line, aNumber, theBytes, spanLine}
-use Rattle.wire.specs.Reading.{found, next}
+use Rattle.wire.specs.Reading.{found}
 use Rattle.wire.specs.Layout.{lengthTo}
 use Rattle.wire.specs.Writing.{cut, spelt}
 use Rattle.wire.specs.Fields.{partOf}
@@ -26,7 +26,7 @@ use Rattle.text.specs.Text.{sayWord, lineText}
 use Rattle.text.proofs.Rows.{puts-same}
 use Rattle.steps.specs.declared.walk.Walk.{Walk}
 use Rattle.steps.specs.Near.{Near}
-use Rattle.steps.specs.Steps.{Step, Plain, Buffer, Items, spellStep, stepLines}
+use Rattle.steps.specs.Steps.{Step, Plain, Buffer, spellStep, stepLines}
 use Rattle.steps.specs.Walks.{Here, here, refusing, lining, after, needOf, lineIf, forLines, putLine, putLines, toPlace, onTo, linesIf, linesOnce, lineStep}
 use Rattle.steps.proofs.Spelled.{cut-is}
 
@@ -107,20 +107,6 @@ span-says src place t {xs} h p =
     let same : xs ≡ take (lenOf t) (drop (startOf t) src) = p ∙ rw (le-leb (startOf t + lenOf t) (length src) h) in
     let size : length xs ≡ lenOf t = ap length same ∙ cut-length src (startOf t) (lenOf t) 0 h in
     rw size (ap (λ x. line place (lenOf t) (theBytes x)) same)
-
--- the same, one by one, as a call of it asks
-module _ (src : List ℕ) (at : ℕ) (m : Measure) (stop n : ℕ) (t : Span) where
-  pub plain-small : m ≡ Measure.Size stop → (measureAnswer m ≡ after at (spellStep (Plain n t) src at)) × Near m at → lenOf t ≤ 0x10001
-  plain-small e told = plain-inside src at e n t told .0
-
-  pub plain-within : m ≡ Measure.Size stop → (measureAnswer m ≡ after at (spellStep (Plain n t) src at)) × Near m at → startOf t + lenOf t ≤ length src
-  plain-within e told = plain-inside src at e n t told .1
-
-  pub buffer-small : m ≡ Measure.Size stop → (measureAnswer m ≡ after at (spellStep (Buffer n t) src at)) × Near m at → lenOf t ≤ 0x10001
-  buffer-small e told = buffer-inside src at e n t told .0
-
-  pub buffer-within : m ≡ Measure.Size stop → (measureAnswer m ≡ after at (spellStep (Buffer n t) src at)) × Near m at → startOf t + lenOf t ≤ length src
-  buffer-within e told = buffer-inside src at e n t told .1
 
 -- ---- the lines of a digest and of a buffer
 

@@ -3,21 +3,19 @@ use Prim.Native.Nat.{ℕ, zero, suc, _+_, _*_, _≤_}
 use native.Mathlib.Nat.{zero-add}
 use native.Mathlib.Omega.{arith}
 use mathlib.Core.Path.{_≡_, refl, sym, ap, _∙_, subst}
-use mathlib.Core.Bool.{true, false}
+use mathlib.Core.Bool.{true}
 use mathlib.Core.List.{List, [], _∷_, _++_, append-assoc}
 use lib.ListN.{length, take, drop, length-append, length-take}
 use lib.Dec.{leb}
 use borrow.Author.Tests.{le-leb, leb-true}
-use Rattle.wire.specs.declared.choice.Choice.{Choice}
 use Rattle.wire.specs.Answers.{widthOf, startOf, lenOf}
 use Rattle.wire.specs.Bytes.{be, digits}
-use Rattle.wire.specs.Layout.{Rule, free, listed, fixed, lengthTo, countTo, allows, Layout}
+use Rattle.wire.specs.Layout.{Rule, free, listed, fixed, lengthTo, countTo, Layout}
 use Rattle.wire.specs.Lines.{Says, aCode, aNumber, theBytes, Line, line, sayNumber, lines, ofRead}
 use Rattle.wire.specs.Reading.{Part, num, span, found, next, left, Parsed, piece, field, walk, list, read}
 use Rattle.wire.specs.Writing.{cut, whole, lay}
 use Rattle.wire.proofs.Digits.{length-digits}
-use Rattle.wire.proofs.Steps.{found-refused, found-same, parsed-same, next-found, when-found}
-use Rattle.wire.proofs.Then.{whole-same}
+use Rattle.wire.proofs.Steps.{found-same, parsed-same, next-found}
 use Rattle.wire.proofs.Written.{moved-found}
 use Rattle.format.specs.Codes.{alg}
 use Rattle.format.specs.declared.list.ListOf.{ListOf}
@@ -27,12 +25,12 @@ use Rattle.text.specs.Puts.{Puts}
 use Rattle.text.specs.declared.line.Word.{Word}
 use Rattle.text.specs.Text.{lineText, linesText}
 use Rattle.text.proofs.Putting.{puts-length, puts-then, puts-none}
-use Rattle.text.proofs.Rows.{number-line-length, bytes-line-length, puts-same}
+use Rattle.text.proofs.Rows.{number-line-length, bytes-line-length}
 use Rattle.steps.specs.declared.walk.Walk.{Walk}
 use Rattle.steps.specs.Steps.{Step, Number, Plain, Buffer, Items, Due, spell, spellStep, laid, itemsLines, stepLines, linesOf}
 use Rattle.steps.specs.Walks.{Here, here, lining, needOf, putLine, putLines, toPlace, onTo, lineStep, leftLines, stepWalk, run, Walks}
 use Rattle.steps.proofs.Lists.{items-legal, count-few}
-use Rattle.steps.proofs.Spelled.{Next, next-step, step-is, cut-is}
+use Rattle.steps.proofs.Spelled.{next-step, step-is, cut-is}
 
 -- ---- lines, where there is room for them
 

@@ -1,11 +1,11 @@
 -- A record that is walked over twice, to judge it and to put it, is written. Assumes nothing.
-use Prim.Native.Nat.{ℕ, zero, suc, _+_, _-_, _*_, _≤_, _<_}
+use Prim.Native.Nat.{ℕ, _+_, _-_, _≤_}
 use native.Mathlib.Nat.{zero-add}
 use native.Mathlib.Omega.{arith}
-use mathlib.Core.Path.{_≡_, refl, sym, ap, _∙_, subst}
+use mathlib.Core.Path.{_≡_, refl, sym, ap, _∙_}
 use mathlib.Core.Bool.{Bool, true, false}
-use mathlib.Core.List.{List, [], _∷_, _++_}
-use lib.ListN.{length, take, drop}
+use mathlib.Core.List.{List, _++_}
+use lib.ListN.{length, drop}
 use lib.Dec.{leb}
 use borrow.Author.Tests.{leb-true}
 use Rattle.wire.specs.declared.fault.Refusal.{Refusal}
@@ -18,16 +18,19 @@ use Rattle.wire.specs.Writing.{lay}
 use Rattle.wire.specs.Filling.{written, filled}
 use Rattle.steps.specs.Steps.{Step, spell}
 use Rattle.steps.specs.declared.walk.Walk.{Walk}
-use Rattle.steps.specs.Walks.{Here, here, judging, putting, seeking, refusing, finding, after, judged, run, reach, Walks, readyWalk, walkAnswer}
+use Rattle.steps.specs.Walks.{Here, here, judging, putting, refusing, after, judged, run, Walks, readyWalk, walkAnswer}
 use Rattle.steps.specs.Writes.{Writes}
 use Rattle.steps.proofs.Leaves.{numbered}
-use Rattle.steps.proofs.Runs.{stays-no, run-judges, run-puts, PutTo}
+use Rattle.steps.proofs.Runs.{stays-no, run-judges, run-puts}
+
+pub refusing-answer : (f : Refusal) → walkAnswer (refusing f) ≡ refused f
+unfolding walkAnswer
+refusing-answer f = ap (λ k. refused (refusal k (f .place) (f .value))) (numbered (f .fault))
 
 -- what the second walk leaves, by what the first found
 module _ (ss : List Step) (src old : List ℕ) where
   refused-walk : (f : Refusal) {h : Here} → h ≡ run ss src (here (refusing f) old) → (walkAnswer (h .walk) ≡ refused f) × (h .out ≡ old)
-  unfolding walkAnswer
-  refused-walk f e = let g = e ∙ stays-no ss src f old in (ap (λ x. walkAnswer (x .walk)) g ∙ ap (λ k. refused (refusal k (f .place) (f .value))) (numbered (f .fault)), ap (λ x. x .out) g)
+  refused-walk f e = let g = e ∙ stays-no ss src f old in (ap (λ x. walkAnswer (x .walk)) g ∙ refusing-answer f, ap (λ x. x .out) g)
 
   put-walk : (bs : List ℕ) {h : Here} → spell ss src 0 ≡ found bs → length bs ≤ length old → h ≡ run ss src (here (putting 0) old) → (walkAnswer (h .walk) ≡ found (length bs)) × (h .out ≡ bs ++ drop (length bs + 0) old)
   unfolding walkAnswer

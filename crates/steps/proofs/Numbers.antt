@@ -3,27 +3,26 @@ use Prim.Native.Nat.{ℕ, zero, suc, _+_, _≤_, _<_, _^_}
 use native.Mathlib.Omega.{arith}
 use mathlib.Core.Path.{_≡_, refl, sym, ap, _∙_}
 use mathlib.Core.Bool.{Bool, true, false, cond}
-use mathlib.Core.List.{List, [], _∷_}
+use mathlib.Core.List.{List}
 use lib.ListN.{length}
 use lib.Dec.{leb, eqb}
 use borrow.Author.Tests.{lt-ltb, le-leb, lt-leb, ne-eqb}
-use Rattle.wire.specs.declared.choice.Choice.{Choice}
 use Rattle.wire.specs.declared.fault.Refusal.{Refusal}
 use Rattle.wire.specs.declared.width.Width.{Width}
 use Rattle.wire.specs.Answers.{widthOf}
 use Rattle.wire.specs.Bytes.{digits}
-use Rattle.wire.specs.Faults.{badValue, noSuchArm, mismatch}
+use Rattle.wire.specs.Faults.{badValue}
 use Rattle.wire.specs.Layout.{Rule, free, allows, breach}
-use Rattle.wire.specs.Lines.{Says, line, sayNumber}
-use Rattle.wire.specs.Reading.{found, refused}
+use Rattle.wire.specs.Lines.{line, sayNumber}
+use Rattle.wire.specs.Reading.{found}
 use Rattle.wire.specs.Writing.{spelt}
 use Rattle.wire.proofs.Digits.{length-digits}
 use Rattle.format.specs.Codes.{isYesNo, isMagic}
 use Rattle.text.specs.declared.line.Word.{Word}
 use Rattle.text.specs.Text.{sayWord}
 use Rattle.steps.specs.declared.walk.Walk.{Walk}
-use Rattle.steps.specs.Steps.{Step, Number, Due, spellStep}
-use Rattle.steps.specs.Walks.{Here, here, judging, refusing, far, after, judged, judgeStep, putOne, putStep, seekStep, needOf, lineIf, forLines, putLine, putLines, toPlace, onTo, lineStep, stepBy, stepWalk, run, Goes, numberBy, numberWalk, Numbers, Dues}
+use Rattle.steps.specs.Steps.{Number, spellStep}
+use Rattle.steps.specs.Walks.{Here, here, judging, refusing, far, after, judged, judgeStep, putOne, putStep, seekStep, needOf, lineIf, forLines, putLine, putLines, toPlace, onTo, lineStep, stepBy, stepWalk, run, numberBy, numberWalk, Numbers}
 
 module _ (good : Bool) (k : Word) (w : Width) (n : ℕ) (f : Refusal) (rule : Rule) (u : Walk) (src out : List ℕ) where
   judges : good ≡ allows rule n → f ≡ breach rule (u .at) n → n < 256 ^ widthOf w → cond good (judging (u .at + widthOf w)) (refusing f) ≡ judged (after (u .at) (spellStep (Number w rule n) src (u .at)))

@@ -1,5 +1,5 @@
 -- The steps of records, put together from those of their fields. Assumes nothing.
-use Prim.Native.Nat.{ℕ, zero, suc, _+_, _^_, _≤_, _<_}
+use Prim.Native.Nat.{ℕ, zero, suc, _+_, _^_, _<_}
 use native.Mathlib.Omega.{arith}
 use mathlib.Core.Path.{_≡_, refl, sym, ap, _∙_}
 use mathlib.Core.Bool.{Bool, true, false, false≢true}
@@ -24,8 +24,8 @@ use Rattle.wire.proofs.Steps.{found-refused, found-same, next-found, when-found
 use Rattle.wire.proofs.Then.{onto-none, onto-onto, lay-then, shaped-then, whole-same}
 use Rattle.wire.proofs.Written.{spelt-found, cut-found, moved-found}
 use Rattle.format.specs.declared.list.ListOf.{ListOf}
-use Rattle.format.specs.Kinds.{itemLayout, mostItems, tpmuHaBody}
-use Rattle.steps.specs.Steps.{Step, Number, Plain, Buffer, Items, Due, spellDue, spell, spellStep, laid, spansOf, listsOf, stepLines, linesOf, dueSize, Plans}
+use Rattle.format.specs.Kinds.{itemLayout, mostItems}
+use Rattle.steps.specs.Steps.{Step, Number, Plain, Buffer, Items, Due, spell, spellStep, laid, spansOf, listsOf, stepLines, linesOf, dueSize, Plans}
 use Rattle.steps.proofs.Spelled.{next-step}
 
 -- ---- steps in a row

@@ -1,10 +1,10 @@
 -- Walks over records, put together from those over their fields. No law here knows what a walk is for. Assumes nothing.
-use Prim.Native.Nat.{ℕ, suc, _+_, _*_, _≤_, _<_}
+use Prim.Native.Nat.{ℕ, suc, _+_, _≤_, _<_}
 use native.Mathlib.Omega.{arith}
 use mathlib.Core.Path.{_≡_, refl, sym, ap, _∙_}
-use mathlib.Core.Bool.{Bool, true, false}
+use mathlib.Core.Bool.{Bool, true}
 use mathlib.Core.List.{List, [], _∷_, _++_}
-use lib.ListN.{length, length-append}
+use lib.ListN.{length-append}
 use lib.Dec.{leb, ltb}
 use borrow.Author.Tests.{leb-true, ltb-true}
 use Rattle.wire.specs.declared.choice.Choice.{Choice}
@@ -82,13 +82,6 @@ module _ (src : List ℕ) where
   pub last-number : {k : ℕ} {a b : Here} (w : Width) (rule : Rule) (n : ℕ) → Numbers w rule n a b → leb 1 k ≡ true → Walks k (number (widthOf w) rule (λ n. stop)) (num n ∷ []) [] src a b
   last-number {b = b} w rule n p fits = walks-number w rule n (λ n. stop) p (walks-none b) fits
 
-  pub last-buffer : {k : ℕ} {a b : Here} (m : ℕ) (s : Span) → ltb m 65536 ≡ true → Goes (Buffer m s ∷ []) src a b → leb 1 k ≡ true → Walks k (buffer 2 m stop) (spanPart s ∷ []) [] src a b
-  last-buffer {b = b} m s h p fits = walks-buffer m s h p (walks-none b) fits
-
-  pub last-list : {k : ℕ} {a b : Here} (i : ListOf) (s : Span) → Goes (Items i s ∷ []) src a b → leb 1 k ≡ true
-      → Walks k (counted (mostItems i) (itemLayout i) stop) (spanPart s ∷ []) (spanPart s ∷ []) src a b
-  last-list {b = b} i s p fits = walks-list i s p (walks-none b) fits
-
   -- ---- a union with the parts us; c is the arm that its selector v chooses, and b whether it is the one that is held
 
   module _ {c c′ : Choice} {b : Bool} {us : List Part} {x y : Walk} {out : List ℕ} (v : ℕ) (same : c ≡ c′) (told : b ≡ isArm c′ (held us)) (goes : Dues v c b x y) where
@@ -99,10 +92,6 @@ module _ (src : List ℕ) where
     pub holds : {j k h : ℕ} {ps ls : List Part} {l : Layout} {z : Here} (body : ℕ → Layout) → us ≡ tag h ∷ ps → body h ≡ l → Walks j l ps ls src (here y out) z → leb (suc j) k ≡ true
         → Walks k (union c′ body v) us ls src (here x out) z
     holds {h = h} body e is p fits = rw e (first (Due v c′ (isArm c′ h)) (omega arith) (begun e) p (plans-due v c′ h body (plans-arm (rw is (p .plans)))) fits)
-
-    -- without any
-    pub holds-none : {k h : ℕ} (body : ℕ → Layout) → us ≡ tag h ∷ [] → body h ≡ stop → leb 1 k ≡ true → Walks k (union c′ body v) us [] src (here x out) (here y out)
-    holds-none body e is fits = holds body e is (walks-none (here y out)) fits
 
     -- a digest
     pub holds-digest : {k : ℕ} {z : Here} (body : ℕ → Layout) (s : Span) → us ≡ tag (suc (lenOf s)) ∷ spanPart s ∷ [] → (isArm c′ (suc (lenOf s)) ≡ true → body (suc (lenOf s)) ≡ plain (lenOf s) stop) → dueSize c < 65536

@@ -21,7 +21,7 @@ ghost use Prim.Native.Nat.{_≤_};
 ghost use Rattle.wire.specs.Answers.{startOf, lenOf, measureAnswer};
 ghost use Rattle.wire.specs.Writing.{cut};
 ghost use Rattle.steps.specs.Steps.{Plain, Buffer, spellStep, dueSize};
-ghost use Rattle.steps.specs.Walks.{here, after, judged, Moves, putStep, lineStep, Goes};
+ghost use Rattle.steps.specs.Walks.{here, after, judged, Moves, lineStep, Goes};
 ghost use Rattle.steps.specs.Near.{Near};
 
 // How long the digest is that is due.

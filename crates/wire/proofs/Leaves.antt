@@ -2,9 +2,8 @@
 -- the form of its contract, the answer first; a conclusion says how the reading of a layout with that field in front goes on.
 -- Assumes nothing.
 use Prim.Native.Nat.{ℕ, _+_, _-_, _≤_, _<_}
-use native.Mathlib.Omega.{arith}
 use mathlib.Core.Path.{_≡_, refl, sym}
-use mathlib.Core.Bool.{true, false, cond}
+use mathlib.Core.Bool.{cond}
 use mathlib.Core.List.{List, [], _∷_}
 use lib.ListN.{take, drop}
 use lib.Dec.{leb}
@@ -13,8 +12,8 @@ use Rattle.wire.specs.declared.fault.Refusal.{Refusal}
 use Rattle.wire.specs.Bytes.{be}
 use Rattle.wire.specs.Faults.{short, tooLong, tooManyItems}
 use Rattle.wire.specs.Layout.{Rule, free, lengthTo, countTo, allows, breach, Layout, stop, plain, buffer, counted, one}
-use Rattle.wire.specs.Reading.{Part, num, span, Ans, found, refused, Parsed, parsed, next, also, Reader, left, piece, field, walk, list, read}
-use Rattle.wire.proofs.Steps.{found-refused, found-same, parsed-same, next-found, when-found}
+use Rattle.wire.specs.Reading.{num, span, Ans, found, refused, Parsed, parsed, next, also, Reader, left, piece, field, walk, list, read}
+use Rattle.wire.proofs.Steps.{found-refused, parsed-same, when-found}
 
 -- ---- what takes no bytes
 

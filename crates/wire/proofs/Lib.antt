@@ -25,6 +25,7 @@ pub mod Leaves
 pub mod Rest
 pub mod Search
 pub mod Judged
+pub mod Wholes
 pub mod Walks
 pub mod Tests
 pub mod Cuts

@@ -9,7 +9,7 @@ use lib.Dec.{leb}
 use borrow.Author.Tests.{le-leb, leb-true}
 use Rattle.wire.specs.Faults.{trailing}
 use Rattle.wire.specs.Layout.{Layout}
-use Rattle.wire.specs.Reading.{found, refused, Parsed, parsed, left, read, readWhole}
+use Rattle.wire.specs.Reading.{found, refused, Parsed, parsed, left, read, nothingBehind, readWhole}
 use Rattle.wire.specs.Grammar.{Token, Spells, Stands, placed}
 use Rattle.wire.proofs.Stand.{stands-behind}
 use Rattle.wire.proofs.Steps.{next-found, found-same, when-found}
@@ -17,22 +17,23 @@ use Rattle.wire.proofs.Complete.{read-complete}
 
 -- what is read whole is read, and the input ends there at the latest
 pub whole-is-read : (l : Layout) (src : List ℕ) (at : ℕ) {r : Parsed} → readWhole l src at ≡ found r → (read l src at ≡ found r) × (length src ≤ r .stops)
-unfolding readWhole
+unfolding readWhole nothingBehind
 whole-is-read l src at {r} p =
     let (q, e, w) = next-found (read l src at) _ p in
-    let (t, f) = when-found (leb (length src) (q .stops)) _ _ w in
+    let (n, h, f) = next-found (nothingBehind src (q .stops)) _ w in
+    let (t, end) = when-found (leb (length src) (q .stops)) _ _ h in
     let same : q ≡ r = found-same f in
     (e ∙ ap found same, rw (← same) (leb-true (length src) (q .stops) t))
 
 -- a record with nothing behind it is read whole
 pub read-is-whole : (l : Layout) (src : List ℕ) (at : ℕ) {r : Parsed} → read l src at ≡ found r → length src ≤ r .stops → readWhole l src at ≡ found r
-unfolding readWhole
+unfolding readWhole nothingBehind
 read-is-whole l src at {r} p h = rw (p, le-leb (length src) (r .stops) h)
 
 -- a record with bytes behind it is Trailing, where it ends, and the value is what is left
 pub read-is-trailing : (l : Layout) (src : List ℕ) (at : ℕ) {r : Parsed} → read l src at ≡ found r → leb (length src) (r .stops) ≡ false
     → readWhole l src at ≡ refused (trailing (r .stops) (left src (r .stops)))
-unfolding readWhole
+unfolding readWhole nothingBehind
 read-is-trailing l src at {r} p h = rw (p, h)
 
 -- a spelled record is read whole, behind any bytes

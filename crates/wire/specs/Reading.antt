@@ -83,11 +83,16 @@ read (counted m i l) src at =
     next (list m (λ s a. read i s a) src at)
     (λ e. also (span at (e - at)) (read l src e))
 
+-- the end of a record that nothing stands behind
+unfoldable pub nothingBehind : Reader ℕ
+nothingBehind src e = cond (leb (length src) e) (found e) (refused (trailing e (left src e)))
+
 -- the record of a layout, read whole: nothing may be left where it ends
 unfoldable pub readWhole : Layout → Reader Parsed
 readWhole l src at =
     next (read l src at)
-    (λ r. cond (leb (length src) (r .stops)) (found r) (refused (trailing (r .stops) (left src (r .stops)))))
+    (λ r. next (nothingBehind src (r .stops))
+    (λ e. found r))
 
 -- where what was read ends
 abbrev pub endOf : Ans Parsed → Ans ℕ

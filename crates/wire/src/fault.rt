@@ -1,5 +1,6 @@
 // Why something is refused. A refusal has a fault, a place and a value; the format's number of each fault and what its
-// value says stand in specs/Faults.antt. Code builds a refusal by its name, below, and in no other way.
+// value says stand in specs/Faults.antt. Code builds a refusal by its name, below; only a walk that keeps
+// one as numbers builds it again from them (`Walk::answer` of steps).
 ghost use mathlib.Core.Path.{_≡_};
 ghost use Rattle.wire.specs.Faults.{paper, refusal, short, unknownCode, noSuchArm, tooLong, tooManyItems, badValue, mismatch, badSpan, noRoom, noField, trailing, badKind, oversize};
 

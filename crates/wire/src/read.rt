@@ -1,15 +1,16 @@
 // The fields of a record, read from any place of any slice.
 use crate::fault::Refusal;
+use crate::measure::Measure;
 use crate::span::Span;
 use crate::widen::wide_byte;
 use crate::width::Width;
 ghost use mathlib.Core.Path.{_≡_};
 ghost use Prim.Native.Nat.{_+_, _-_, _≤_};
 ghost use lib.ListN.{length, take, drop};
-ghost use Rattle.wire.specs.Answers.{widthOf, numberAnswer, spanAnswer};
+ghost use Rattle.wire.specs.Answers.{widthOf, numberAnswer, spanAnswer, measureAnswer};
 ghost use Rattle.wire.specs.Bytes.{be};
 ghost use Rattle.wire.specs.Layout.{one, free, plain, buffer, stop};
-ghost use Rattle.wire.specs.Reading.{read};
+ghost use Rattle.wire.specs.Reading.{read, nothingBehind};
 
 pub enum NumberRead {
     Found(u64, usize),
@@ -79,4 +80,15 @@ pub fn buffer(s: &[u8], at: usize, w: Width, limit: u16) -> SpanRead
         }
         NumberRead::No(f) => SpanRead::No(f),
     }
+}
+
+// The end of a record that is to be the last: Trailing if anything is left behind it.
+pub fn nothing_behind(s: &[u8], end: usize) -> Measure
+    ensures { λ r. ⌜ measureAnswer r ≡ nothingBehind (now (s .entry)) end ⌝ }
+{
+    let n = left(s.len(), end);
+    if n == 0 {
+        return Measure::Size(end);
+    }
+    Measure::No(Refusal::trailing(end, n))
 }

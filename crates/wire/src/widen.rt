@@ -1,4 +1,4 @@
-// Numbers as wide as refusals and steps carry them.
+// Numbers as wide as refusals and walks carry them.
 ghost use mathlib.Core.Path.{_≡_};
 
 pub fn wide_byte(n: u8) -> u64

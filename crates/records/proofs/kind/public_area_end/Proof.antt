@@ -1,17 +1,8 @@
 -- The end is that of the record that was read. Assumes nothing.
 use borrow.Author.Needs.{needs}
-use mathlib.Core.Path.{ap}
-use Rattle.wire.proofs.Rest.{told}
 use Rattle.keys.specs.Answers.{tpmtPublicAnswer}
-use Rattle.records.specs.Ends.{endOf}
-use Rattle.records.proofs.kind.public_area_end.Statement.{statement}
+use Rattle.records.proofs.ByKind.{ending}
 use Rattle.records.proofs.kind.public_area_end.Tie as tie
 
-returns : tie.Need-returns
-returns c = ap endOf (told tpmtPublicAnswer (c .before .e .given .1) (c .before .before .before .unmarshal .ensures))
-
-returns-2 : tie.Need-returns-2
-returns-2 c = ap endOf (told tpmtPublicAnswer (c .before .f .given .1) (c .before .before .before .unmarshal .ensures))
-
-pub public-area-end-spec : {M : Type 1} → statement M
-public-area-end-spec = tie.close (tie.spec (search needs) (search needs) (search needs) returns returns-2)
+pub public-area-end-spec : {M : Type 1} → Rattle.records.proofs.kind.public_area_end.Statement.statement M
+public-area-end-spec = tie.close (tie.spec (search needs) (search needs) (search needs) (λ c. search (ending tpmtPublicAnswer)) (λ c. search (ending tpmtPublicAnswer)))

@@ -1,17 +1,8 @@
 -- The end is that of the record that was read. Assumes nothing.
 use borrow.Author.Needs.{needs}
-use mathlib.Core.Path.{ap}
-use Rattle.wire.proofs.Rest.{told}
-use Rattle.keys.specs.Answers.{tpmtPublicParmsAnswer}
-use Rattle.records.specs.Ends.{endOf}
-use Rattle.records.proofs.kind.public_parms_end.Statement.{statement}
+use Rattle.parameters.specs.Answers.{tpmtPublicParmsAnswer}
+use Rattle.records.proofs.ByKind.{ending}
 use Rattle.records.proofs.kind.public_parms_end.Tie as tie
 
-returns : tie.Need-returns
-returns c = ap endOf (told tpmtPublicParmsAnswer (c .before .e .given .1) (c .before .before .before .unmarshal .ensures))
-
-returns-2 : tie.Need-returns-2
-returns-2 c = ap endOf (told tpmtPublicParmsAnswer (c .before .f .given .1) (c .before .before .before .unmarshal .ensures))
-
-pub public-parms-end-spec : {M : Type 1} → statement M
-public-parms-end-spec = tie.close (tie.spec (search needs) (search needs) (search needs) returns returns-2)
+pub public-parms-end-spec : {M : Type 1} → Rattle.records.proofs.kind.public_parms_end.Statement.statement M
+public-parms-end-spec = tie.close (tie.spec (search needs) (search needs) (search needs) (λ c. search (ending tpmtPublicParmsAnswer)) (λ c. search (ending tpmtPublicParmsAnswer)))

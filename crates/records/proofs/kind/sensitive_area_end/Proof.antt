@@ -1,17 +1,8 @@
 -- The end is that of the record that was read. Assumes nothing.
 use borrow.Author.Needs.{needs}
-use mathlib.Core.Path.{ap}
-use Rattle.wire.proofs.Rest.{told}
 use Rattle.keys.specs.Answers.{tpmtSensitiveAnswer}
-use Rattle.records.specs.Ends.{endOf}
-use Rattle.records.proofs.kind.sensitive_area_end.Statement.{statement}
+use Rattle.records.proofs.ByKind.{ending}
 use Rattle.records.proofs.kind.sensitive_area_end.Tie as tie
 
-returns : tie.Need-returns
-returns c = ap endOf (told tpmtSensitiveAnswer (c .before .e .given .1) (c .before .before .before .unmarshal .ensures))
-
-returns-2 : tie.Need-returns-2
-returns-2 c = ap endOf (told tpmtSensitiveAnswer (c .before .f .given .1) (c .before .before .before .unmarshal .ensures))
-
-pub sensitive-area-end-spec : {M : Type 1} → statement M
-sensitive-area-end-spec = tie.close (tie.spec (search needs) (search needs) (search needs) returns returns-2)
+pub sensitive-area-end-spec : {M : Type 1} → Rattle.records.proofs.kind.sensitive_area_end.Statement.statement M
+sensitive-area-end-spec = tie.close (tie.spec (search needs) (search needs) (search needs) (λ c. search (ending tpmtSensitiveAnswer)) (λ c. search (ending tpmtSensitiveAnswer)))

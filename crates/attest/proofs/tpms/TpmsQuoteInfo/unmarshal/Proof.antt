@@ -3,7 +3,7 @@ use borrow.Author.Needs.{needs}
 use Rattle.wire.proofs.Search.{finds, refuses, by-then, by-whole, rests}
 use Rattle.format.specs.Kinds.{tpmsQuoteInfo}
 use Rattle.wire.specs.Answers.{spanAnswer}
-use Rattle.schemes.specs.Answers.{tpmlPcrSelectionAnswer}
+use Rattle.attest.specs.Answers.{tpmlPcrSelectionAnswer}
 use Rattle.attest.proofs.tpms.TpmsQuoteInfo.unmarshal.Statement.{statement}
 use Rattle.attest.proofs.tpms.TpmsQuoteInfo.unmarshal.Tie as tie
 

@@ -1,7 +1,8 @@
 -- Both arms are read behind the fields ahead of them. Assumes nothing.
 use borrow.Author.Needs.{needs}
 use Rattle.wire.proofs.Search.{finds, refuses, by-then, by-whole, rests}
-use Rattle.keys.specs.Answers.{tpmuPublicParmsAnswer, tpmuPublicIdAnswer}
+use Rattle.parameters.specs.Answers.{tpmuPublicParmsAnswer}
+use Rattle.keys.specs.Answers.{tpmuPublicIdAnswer}
 use Rattle.keys.proofs.tpmt.TpmtPublic.arms.Statement.{statement}
 use Rattle.keys.proofs.tpmt.TpmtPublic.arms.Tie as tie
 

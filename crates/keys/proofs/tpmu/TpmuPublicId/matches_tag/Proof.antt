@@ -1,12 +1,13 @@
--- The payload's arm is held against the one that is chosen. Assumes nothing.
+-- The selector is held against the arm's own code. Assumes nothing.
 use borrow.Author.Needs.{needs}
-use Rattle.wire.proofs.Search.{is-arm}
+use Rattle.format.specs.Kinds.{tpmuPublicIdTable, tpmuPublicIdArm}
+use Rattle.steps.proofs.Matches.{by-code}
 use Rattle.keys.specs.Parts.{tpmuPublicIdParts}
-use Rattle.keys.proofs.tpmu.TpmuPublicId.matches_tag.Statement.{statement}
 use Rattle.keys.proofs.tpmu.TpmuPublicId.matches_tag.Tie as tie
 
-pub matches-tag-spec : {M : Type 1} → statement M
+pub matches-tag-spec : {M : Type 1} → Rattle.keys.proofs.tpmu.TpmuPublicId.matches_tag.Statement.statement M
+unfolding tpmuPublicIdArm
 matches-tag-spec = tie.close (tie.spec
-    (search needs) (search needs) (search needs) (search needs) (search needs) (search needs) (search needs) (search needs) (search needs)
-    (search needs) (search needs) (λ c. search (is-arm tpmuPublicIdParts)) (λ c. search (is-arm tpmuPublicIdParts))
-    (λ c. search (is-arm tpmuPublicIdParts)) (λ c. search (is-arm tpmuPublicIdParts)) (λ c. search (is-arm tpmuPublicIdParts)))
+    (search needs) (search needs) (search needs) (search needs) (search needs) (λ c. search (by-code tpmuPublicIdParts tpmuPublicIdTable))
+    (λ c. search (by-code tpmuPublicIdParts tpmuPublicIdTable)) (λ c. search (by-code tpmuPublicIdParts tpmuPublicIdTable))
+    (λ c. search (by-code tpmuPublicIdParts tpmuPublicIdTable)) (λ c. search (by-code tpmuPublicIdParts tpmuPublicIdTable)))

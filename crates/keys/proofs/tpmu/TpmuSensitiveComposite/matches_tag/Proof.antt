@@ -1,12 +1,14 @@
--- The payload's arm is held against the one that is chosen. Assumes nothing.
+-- The selector is held against the arm's own code. Assumes nothing.
 use borrow.Author.Needs.{needs}
-use Rattle.wire.proofs.Search.{is-arm}
+use Rattle.format.specs.Kinds.{tpmuSensitiveCompositeTable, tpmuSensitiveCompositeArm}
+use Rattle.steps.proofs.Matches.{by-code}
 use Rattle.keys.specs.Parts.{tpmuSensitiveCompositeParts}
-use Rattle.keys.proofs.tpmu.TpmuSensitiveComposite.matches_tag.Statement.{statement}
 use Rattle.keys.proofs.tpmu.TpmuSensitiveComposite.matches_tag.Tie as tie
 
-pub matches-tag-spec : {M : Type 1} → statement M
+pub matches-tag-spec : {M : Type 1} → Rattle.keys.proofs.tpmu.TpmuSensitiveComposite.matches_tag.Statement.statement M
+unfolding tpmuSensitiveCompositeArm
 matches-tag-spec = tie.close (tie.spec
-    (search needs) (search needs) (search needs) (search needs) (search needs) (search needs) (search needs) (search needs) (search needs)
-    (λ c. search (is-arm tpmuSensitiveCompositeParts)) (λ c. search (is-arm tpmuSensitiveCompositeParts))
-    (λ c. search (is-arm tpmuSensitiveCompositeParts)) (λ c. search (is-arm tpmuSensitiveCompositeParts)))
+    (search needs) (search needs) (search needs) (search needs) (λ c. search (by-code tpmuSensitiveCompositeParts tpmuSensitiveCompositeTable))
+    (λ c. search (by-code tpmuSensitiveCompositeParts tpmuSensitiveCompositeTable))
+    (λ c. search (by-code tpmuSensitiveCompositeParts tpmuSensitiveCompositeTable))
+    (λ c. search (by-code tpmuSensitiveCompositeParts tpmuSensitiveCompositeTable)))

@@ -1,12 +1,12 @@
--- The payload's arm is held against the one that is chosen. Assumes nothing.
+-- The selector is held against the arm's own code. Assumes nothing.
 use borrow.Author.Needs.{needs}
-use Rattle.wire.proofs.Search.{is-arm}
+use Rattle.format.specs.Kinds.{tpmuKeyedhashSchemeTable, tpmuKeyedhashSchemeArm}
+use Rattle.steps.proofs.Matches.{by-code}
 use Rattle.schemes.specs.Parts.{tpmuKeyedhashSchemeParts}
-use Rattle.schemes.proofs.tpmu.TpmuKeyedhashScheme.matches_tag.Statement.{statement}
 use Rattle.schemes.proofs.tpmu.TpmuKeyedhashScheme.matches_tag.Tie as tie
 
-pub matches-tag-spec : {M : Type 1} → statement M
+pub matches-tag-spec : {M : Type 1} → Rattle.schemes.proofs.tpmu.TpmuKeyedhashScheme.matches_tag.Statement.statement M
+unfolding tpmuKeyedhashSchemeArm
 matches-tag-spec = tie.close (tie.spec
-    (search needs) (search needs) (search needs) (search needs) (search needs) (search needs) (search needs)
-    (λ c. search (is-arm tpmuKeyedhashSchemeParts)) (λ c. search (is-arm tpmuKeyedhashSchemeParts))
-    (λ c. search (is-arm tpmuKeyedhashSchemeParts)))
+    (search needs) (search needs) (search needs) (λ c. search (by-code tpmuKeyedhashSchemeParts tpmuKeyedhashSchemeTable))
+    (λ c. search (by-code tpmuKeyedhashSchemeParts tpmuKeyedhashSchemeTable)) (λ c. search (by-code tpmuKeyedhashSchemeParts tpmuKeyedhashSchemeTable)))

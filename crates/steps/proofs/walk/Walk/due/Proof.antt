@@ -5,5 +5,5 @@ use Rattle.steps.proofs.walk.Walk.due.Tie as tie
 
 pub due-spec : {M : Type 1} → Rattle.steps.proofs.walk.Walk.due.Statement.statement M
 due-spec = tie.close (tie.spec
-    (search needs) (λ c. search due-held) (search needs) (search needs) (λ c. search due-other) (search needs) (search needs) (search needs)
+    (search needs) (λ c. due-held _ _ _ _ (search needs) (c .before .enum-told .given .1) (search needs)) (search needs) (search needs) (λ c. search due-other) (search needs) (search needs) (search needs)
     (λ c. search due-missing) (λ c. search due-passed))

@@ -1,0 +1,108 @@
+// Kind 14, the PCR selection list: a count, and so many items. A record keeps the whole list as one span. It has the calls that a kind
+// has (ciphers, tpmt.rt).
+use format::list::ListOf;
+use steps::list::list_end;
+use steps::walk::Walk;
+use steps::walk::judging;
+use steps::walk::list_seeking;
+use steps::walk::seeking;
+use wire::fault::Refusal;
+use wire::measure::Measure;
+use wire::read::nothing_behind;
+use wire::span::Span;
+ghost use mathlib.Core.Path.{_≡_};
+ghost use Rattle.wire.specs.Answers.{measureAnswer};
+ghost use Rattle.wire.specs.Reading.{read, readWhole};
+ghost use Rattle.wire.specs.Fields.{partOf, sizeOf, fieldOf};
+ghost use Rattle.wire.specs.Items.{itemOf};
+ghost use Rattle.format.specs.declared.list.ListOf.the-variants.{PcrSelection};
+ghost use Rattle.format.specs.Kinds.{tpmlPcrSelection, itemLayout, mostItems};
+ghost use Rattle.steps.specs.Walks.{here, Walks};
+ghost use Rattle.steps.specs.Writes.{Writes};
+ghost use Rattle.attest.specs.Parts.{tpmlPcrSelectionParts};
+ghost use Rattle.attest.specs.Answers.{tpmlPcrSelectionAnswer};
+
+pub struct TpmlPcrSelection {
+    pub items: Span,
+}
+
+pub enum TpmlPcrSelectionRead {
+    Found(TpmlPcrSelection, usize),
+    No(Refusal),
+}
+
+impl TpmlPcrSelection {
+    // Kind 14, TPML_PCR_SELECTION, read.
+    pub fn unmarshal(s: &[u8], at: usize) -> TpmlPcrSelectionRead
+        ensures { λ r. ⌜ tpmlPcrSelectionAnswer r ≡ read tpmlPcrSelection (now (s .entry)) at ⌝ }
+    {
+        match list_end(ListOf::PcrSelection, s, at) {
+            Measure::Size(e) => {
+                let len = e - at;
+                TpmlPcrSelectionRead::Found(
+                    TpmlPcrSelection {
+                        items: Span::new(at, len),
+                    },
+                    e,
+                )
+            }
+            Measure::No(f) => TpmlPcrSelectionRead::No(f),
+        }
+    }
+
+    pub fn whole(s: &[u8], at: usize) -> TpmlPcrSelectionRead
+        ensures { λ r. ⌜ tpmlPcrSelectionAnswer r ≡ readWhole tpmlPcrSelection (now (s .entry)) at ⌝ }
+    {
+        match TpmlPcrSelection::unmarshal(s, at) {
+            TpmlPcrSelectionRead::Found(x, e) => match nothing_behind(s, e) {
+                Measure::Size(_) => TpmlPcrSelectionRead::Found(x, e),
+                Measure::No(f) => TpmlPcrSelectionRead::No(f),
+            },
+            TpmlPcrSelectionRead::No(f) => TpmlPcrSelectionRead::No(f),
+        }
+    }
+
+    pub fn walk(self, w: Walk, src: &[u8], out: &mut [u8]) -> Walk
+        ensures { λ r. ⌜ Walks 1 tpmlPcrSelection (tpmlPcrSelectionParts self) (tpmlPcrSelectionParts self) (now (src .entry)) (here w (now (out .entry))) (here r (now (out .exit))) ⌝ }
+    {
+        let items = self.items;
+        w.list(ListOf::PcrSelection, items, src, out)
+    }
+
+    pub fn marshal(self, src: &[u8], out: &mut [u8]) -> Measure
+        ensures { λ r. ⌜ Writes tpmlPcrSelection (tpmlPcrSelectionParts self) (now (src .entry)) (now (out .entry)) r (now (out .exit)) ⌝ }
+    {
+        let judged = self.walk(judging(0), src, out);
+        self.walk(judged.ready(out.len()), src, out).answer()
+    }
+
+    pub fn field<'a>(self, s: &'a [u8], index: usize) -> &'a [u8]
+        ensures { λ r. ⌜ now r ≡ partOf (fieldOf (tpmlPcrSelectionParts self) index (now (s .entry))) ⌝ }
+    {
+        let mut none = [0u8; 1];
+        self.walk(seeking(index), s, &mut none).part(s)
+    }
+
+    pub fn field_size(self, s: &[u8], index: usize) -> Measure
+        ensures { λ r. ⌜ measureAnswer r ≡ sizeOf (fieldOf (tpmlPcrSelectionParts self) index (now (s .entry))) ⌝ }
+    {
+        let mut none = [0u8; 1];
+        self.walk(seeking(index), s, &mut none).size(s, index)
+    }
+
+    pub fn item<'a>(self, s: &'a [u8], index: usize) -> &'a [u8]
+        ensures { λ r. ⌜ now r ≡ partOf (itemOf (mostItems PcrSelection) (itemLayout PcrSelection) (tpmlPcrSelectionParts self) index (now (s .entry))) ⌝ }
+    {
+        let mut none = [0u8; 1];
+        self.walk(list_seeking(), s, &mut none)
+            .item(ListOf::PcrSelection, s, index)
+    }
+
+    pub fn item_size(self, s: &[u8], index: usize) -> Measure
+        ensures { λ r. ⌜ measureAnswer r ≡ sizeOf (itemOf (mostItems PcrSelection) (itemLayout PcrSelection) (tpmlPcrSelectionParts self) index (now (s .entry))) ⌝ }
+    {
+        let mut none = [0u8; 1];
+        self.walk(list_seeking(), s, &mut none)
+            .item_size(ListOf::PcrSelection, s, index)
+    }
+}

@@ -1,2 +1,0 @@
-// Plans of records by the kind's number.
-pub mod kind;

@@ -1,0 +1,15 @@
+-- Field by field, what is left to read is the rest of the layout. Assumes nothing.
+use borrow.Author.Needs.{needs}
+use Rattle.wire.proofs.Search.{finds, refuses, by-number, by-whole, rests}
+use Rattle.format.specs.Kinds.{tpmtHa}
+use Rattle.format.specs.Answers.{tpmAlgIdAnswer}
+use Rattle.ciphers.specs.Answers.{tpmuHaAnswer}
+use Rattle.ciphers.proofs.tpmt.TpmtHa.unmarshal.Statement.{statement}
+use Rattle.ciphers.proofs.tpmt.TpmtHa.unmarshal.Tie as tie
+
+pub unmarshal-spec : {M : Type 1} → statement M
+unfolding tpmtHa
+unmarshal-spec = tie.close (tie.spec
+    (search needs) (search needs) (search needs) (λ c. refuses (search (by-number tpmAlgIdAnswer, rests))) (search needs) (search needs)
+    (search needs) (λ c. refuses (search (by-number tpmAlgIdAnswer, by-whole tpmuHaAnswer, rests)))
+    (λ c. finds (search (by-number tpmAlgIdAnswer, by-whole tpmuHaAnswer, rests))))

@@ -1,0 +1,9 @@
+-- Its fields, one behind the other. Assumes nothing.
+use borrow.Author.Needs.{needs}
+use Rattle.format.specs.Kinds.{tpmtHa}
+use Rattle.steps.proofs.Search.{walking}
+use Rattle.ciphers.proofs.tpmt.TpmtHa.walk.Tie as tie
+
+pub walk-spec : {M : Type 1} → Rattle.ciphers.proofs.tpmt.TpmtHa.walk.Statement.statement M
+unfolding tpmtHa
+walk-spec = tie.close (tie.spec (search needs) (search needs) (search needs) (λ c. search walking))

@@ -1,0 +1,17 @@
+-- Field by field, what is left to read is the rest of the layout. Assumes nothing.
+use borrow.Author.Needs.{needs}
+use Rattle.wire.proofs.Search.{finds, refuses, by-number, by-then, by-whole, rests}
+use Rattle.format.specs.Kinds.{tpmtSymDef}
+use Rattle.format.specs.Answers.{tpmAlgIdAnswer}
+use Rattle.ciphers.specs.Answers.{tpmuSymKeyBitsAnswer, tpmuSymModeAnswer}
+use Rattle.ciphers.proofs.tpmt.TpmtSymDef.unmarshal.Statement.{statement}
+use Rattle.ciphers.proofs.tpmt.TpmtSymDef.unmarshal.Tie as tie
+
+pub unmarshal-spec : {M : Type 1} → statement M
+unfolding tpmtSymDef
+unmarshal-spec = tie.close (tie.spec
+    (search needs) (search needs) (search needs) (λ c. refuses (search (by-number tpmAlgIdAnswer, rests))) (search needs) (search needs)
+    (search needs) (λ c. refuses (search (by-number tpmAlgIdAnswer, by-then tpmuSymKeyBitsAnswer, rests))) (search needs) (search needs)
+    (search needs)
+    (λ c. refuses (search (by-number tpmAlgIdAnswer, by-then tpmuSymKeyBitsAnswer, by-whole tpmuSymModeAnswer, rests) depth 6))
+    (λ c. finds (search (by-number tpmAlgIdAnswer, by-then tpmuSymKeyBitsAnswer, by-whole tpmuSymModeAnswer, rests) depth 6)))

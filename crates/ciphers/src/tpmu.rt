@@ -1,0 +1,214 @@
+// The unions of kinds 1 and 2. Each reader goes by what the selector chooses, each `matches_tag` says whether the payload is the arm that the selector
+// chooses, and each walk asks that where the arm is due.
+use format::codes::DigestLen;
+use format::codes::TpmAlgId;
+use format::codes::TpmAlgIdRead;
+use format::registry;
+use format::uint::Uint16Read;
+use format::uint::uint16;
+use steps::walk::Walk;
+use wire::fault::Refusal;
+use wire::read::SpanRead;
+use wire::read::plain;
+use wire::span::Span;
+use wire::widen::wide;
+ghost use mathlib.Core.Path.{_≡_};
+ghost use mathlib.Core.List.{[]};
+ghost use Rattle.wire.specs.Reading.{read};
+ghost use Rattle.wire.specs.Unions.{isArm, held};
+ghost use Rattle.format.specs.Kinds.{tpmuHaArm, tpmuSymKeyBitsArm, tpmuSymModeArm, tpmuHa, tpmuSymKeyBits, tpmuSymMode};
+ghost use Rattle.steps.specs.Walks.{here, Walks};
+ghost use Rattle.ciphers.specs.Parts.{tpmuHaParts, tpmuSymKeyBitsParts, tpmuSymModeParts};
+ghost use Rattle.ciphers.specs.Answers.{tpmuHaAnswer, tpmuSymKeyBitsAnswer, tpmuSymModeAnswer};
+
+pub enum TpmuHa {
+    Null,
+    Digest(Span),
+}
+
+pub enum TpmuSymKeyBits {
+    Aes(u16),
+    Sm4(u16),
+    Camellia(u16),
+    Xor(TpmAlgId),
+    Null,
+}
+
+pub enum TpmuSymMode {
+    Aes(TpmAlgId),
+    Sm4(TpmAlgId),
+    Camellia(TpmAlgId),
+    Xor(TpmAlgId),
+    Null,
+}
+
+pub enum TpmuHaRead {
+    Found(TpmuHa, usize),
+    No(Refusal),
+}
+
+pub enum TpmuSymKeyBitsRead {
+    Found(TpmuSymKeyBits, usize),
+    No(Refusal),
+}
+
+pub enum TpmuSymModeRead {
+    Found(TpmuSymMode, usize),
+    No(Refusal),
+}
+
+impl TpmuHa {
+    pub fn unmarshal_tagged(tag: TpmAlgId, s: &[u8], at: usize) -> TpmuHaRead
+        ensures { λ r. ⌜ tpmuHaAnswer r ≡ read (tpmuHa (tag .0)) (now (s .entry)) at ⌝ }
+    {
+        match tag.digest_len() {
+            DigestLen::Bytes(n) => match plain(s, at, n as usize) {
+                SpanRead::Found(x, e) => TpmuHaRead::Found(TpmuHa::Digest(x), e),
+                SpanRead::No(f) => TpmuHaRead::No(f),
+            },
+            DigestLen::Empty => TpmuHaRead::Found(TpmuHa::Null, at),
+            DigestLen::Nothing => TpmuHaRead::No(Refusal::no_arm(at, wide(tag.0))),
+        }
+    }
+
+    // Whether the payload is the digest that the algorithm has, at its length.
+    pub fn matches_tag(self, tag: TpmAlgId) -> bool
+        ensures { λ r. ⌜ r ≡ isArm (tpmuHaArm (tag .0)) (held (tpmuHaParts self)) ⌝ }
+    {
+        match tag.digest_len() {
+            DigestLen::Bytes(n) => match self {
+                TpmuHa::Digest(x) => x.len() == n as usize,
+                TpmuHa::Null => false,
+            },
+            DigestLen::Empty => match self {
+                TpmuHa::Digest(_) => false,
+                TpmuHa::Null => true,
+            },
+            DigestLen::Nothing => false,
+        }
+    }
+
+    pub fn walk_tagged(self, tag: TpmAlgId, w: Walk, src: &[u8], out: &mut [u8]) -> Walk
+        ensures { λ r. ⌜ Walks 2 (tpmuHa (tag .0)) (tpmuHaParts self) [] (now (src .entry)) (here w (now (out .entry))) (here r (now (out .exit))) ⌝ }
+    {
+        let chosen = tag.ha_arm();
+        let v = w.due(tag.0, chosen, self.matches_tag(tag));
+        match self {
+            TpmuHa::Null => v,
+            TpmuHa::Digest(x) => v.plain(chosen, x, src, out),
+        }
+    }
+}
+
+impl TpmuSymKeyBits {
+    pub fn unmarshal_tagged(tag: TpmAlgId, s: &[u8], at: usize) -> TpmuSymKeyBitsRead
+        ensures { λ r. ⌜ tpmuSymKeyBitsAnswer r ≡ read (tpmuSymKeyBits (tag .0)) (now (s .entry)) at ⌝ }
+    {
+        let v = tag.0;
+        match v {
+            registry::AES => match uint16(s, at) {
+                Uint16Read::Found(x, e) => TpmuSymKeyBitsRead::Found(TpmuSymKeyBits::Aes(x), e),
+                Uint16Read::No(f) => TpmuSymKeyBitsRead::No(f),
+            },
+            registry::SM4 => match uint16(s, at) {
+                Uint16Read::Found(x, e) => TpmuSymKeyBitsRead::Found(TpmuSymKeyBits::Sm4(x), e),
+                Uint16Read::No(f) => TpmuSymKeyBitsRead::No(f),
+            },
+            registry::CAMELLIA => match uint16(s, at) {
+                Uint16Read::Found(x, e) => TpmuSymKeyBitsRead::Found(
+                    TpmuSymKeyBits::Camellia(x),
+                    e,
+                ),
+                Uint16Read::No(f) => TpmuSymKeyBitsRead::No(f),
+            },
+            registry::XOR => match TpmAlgId::unmarshal(s, at) {
+                TpmAlgIdRead::Found(x, e) => TpmuSymKeyBitsRead::Found(TpmuSymKeyBits::Xor(x), e),
+                TpmAlgIdRead::No(f) => TpmuSymKeyBitsRead::No(f),
+            },
+            registry::NULL => TpmuSymKeyBitsRead::Found(TpmuSymKeyBits::Null, at),
+            _ => TpmuSymKeyBitsRead::No(Refusal::no_arm(at, wide(v))),
+        }
+    }
+
+    // Whether the payload is the arm that the selector chooses.
+    pub fn matches_tag(self, tag: TpmAlgId) -> bool
+        ensures { λ r. ⌜ r ≡ isArm (tpmuSymKeyBitsArm (tag .0)) (held (tpmuSymKeyBitsParts self)) ⌝ }
+    {
+        let v = tag.0;
+        match self {
+            TpmuSymKeyBits::Aes(_) => v == registry::AES,
+            TpmuSymKeyBits::Sm4(_) => v == registry::SM4,
+            TpmuSymKeyBits::Camellia(_) => v == registry::CAMELLIA,
+            TpmuSymKeyBits::Xor(_) => v == registry::XOR,
+            TpmuSymKeyBits::Null => v == registry::NULL,
+        }
+    }
+
+    pub fn walk_tagged(self, tag: TpmAlgId, w: Walk, src: &[u8], out: &mut [u8]) -> Walk
+        ensures { λ r. ⌜ Walks 2 (tpmuSymKeyBits (tag .0)) (tpmuSymKeyBitsParts self) [] (now (src .entry)) (here w (now (out .entry))) (here r (now (out .exit))) ⌝ }
+    {
+        let v = w.due(tag.0, tag.sym_key_bits_arm(), self.matches_tag(tag));
+        match self {
+            TpmuSymKeyBits::Aes(x) => v.uint16(x, out),
+            TpmuSymKeyBits::Sm4(x) => v.uint16(x, out),
+            TpmuSymKeyBits::Camellia(x) => v.uint16(x, out),
+            TpmuSymKeyBits::Xor(x) => v.algorithm(x, out),
+            TpmuSymKeyBits::Null => v,
+        }
+    }
+}
+
+impl TpmuSymMode {
+    pub fn unmarshal_tagged(tag: TpmAlgId, s: &[u8], at: usize) -> TpmuSymModeRead
+        ensures { λ r. ⌜ tpmuSymModeAnswer r ≡ read (tpmuSymMode (tag .0)) (now (s .entry)) at ⌝ }
+    {
+        let v = tag.0;
+        match v {
+            registry::AES => match TpmAlgId::unmarshal(s, at) {
+                TpmAlgIdRead::Found(x, e) => TpmuSymModeRead::Found(TpmuSymMode::Aes(x), e),
+                TpmAlgIdRead::No(f) => TpmuSymModeRead::No(f),
+            },
+            registry::SM4 => match TpmAlgId::unmarshal(s, at) {
+                TpmAlgIdRead::Found(x, e) => TpmuSymModeRead::Found(TpmuSymMode::Sm4(x), e),
+                TpmAlgIdRead::No(f) => TpmuSymModeRead::No(f),
+            },
+            registry::CAMELLIA => match TpmAlgId::unmarshal(s, at) {
+                TpmAlgIdRead::Found(x, e) => TpmuSymModeRead::Found(TpmuSymMode::Camellia(x), e),
+                TpmAlgIdRead::No(f) => TpmuSymModeRead::No(f),
+            },
+            registry::XOR => match TpmAlgId::unmarshal(s, at) {
+                TpmAlgIdRead::Found(x, e) => TpmuSymModeRead::Found(TpmuSymMode::Xor(x), e),
+                TpmAlgIdRead::No(f) => TpmuSymModeRead::No(f),
+            },
+            registry::NULL => TpmuSymModeRead::Found(TpmuSymMode::Null, at),
+            _ => TpmuSymModeRead::No(Refusal::no_arm(at, wide(v))),
+        }
+    }
+
+    // Whether the payload is the arm that the selector chooses.
+    pub fn matches_tag(self, tag: TpmAlgId) -> bool
+        ensures { λ r. ⌜ r ≡ isArm (tpmuSymModeArm (tag .0)) (held (tpmuSymModeParts self)) ⌝ }
+    {
+        let v = tag.0;
+        match self {
+            TpmuSymMode::Aes(_) => v == registry::AES,
+            TpmuSymMode::Sm4(_) => v == registry::SM4,
+            TpmuSymMode::Camellia(_) => v == registry::CAMELLIA,
+            TpmuSymMode::Xor(_) => v == registry::XOR,
+            TpmuSymMode::Null => v == registry::NULL,
+        }
+    }
+
+    pub fn walk_tagged(self, tag: TpmAlgId, w: Walk, src: &[u8], out: &mut [u8]) -> Walk
+        ensures { λ r. ⌜ Walks 2 (tpmuSymMode (tag .0)) (tpmuSymModeParts self) [] (now (src .entry)) (here w (now (out .entry))) (here r (now (out .exit))) ⌝ }
+    {
+        let v = w.due(tag.0, tag.sym_mode_arm(), self.matches_tag(tag));
+        match self {
+            TpmuSymMode::Aes(x) => v.algorithm(x, out),
+            TpmuSymMode::Sm4(x) => v.algorithm(x, out),
+            TpmuSymMode::Camellia(x) => v.algorithm(x, out),
+            TpmuSymMode::Xor(x) => v.algorithm(x, out),
+            TpmuSymMode::Null => v,
+        }
+    }
+}

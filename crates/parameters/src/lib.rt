@@ -1,0 +1,4 @@
+// Parameters of keys: kind 9. Files and names are the Rust crate's.
+pub mod tpms;
+pub mod tpmt;
+pub mod tpmu;

@@ -1,0 +1,102 @@
+// The union of parameters, by the key's type.
+use crate::tpms::TpmsEccParms;
+use crate::tpms::TpmsEccParmsRead;
+use crate::tpms::TpmsKeyedhashParms;
+use crate::tpms::TpmsKeyedhashParmsRead;
+use crate::tpms::TpmsRsaParms;
+use crate::tpms::TpmsRsaParmsRead;
+use crate::tpms::TpmsSymcipherParms;
+use crate::tpms::TpmsSymcipherParmsRead;
+use format::codes::TpmAlgId;
+use format::registry;
+use steps::walk::Walk;
+use wire::fault::Refusal;
+use wire::widen::wide;
+ghost use mathlib.Core.Path.{_≡_};
+ghost use mathlib.Core.List.{[]};
+ghost use Rattle.wire.specs.Reading.{read};
+ghost use Rattle.wire.specs.Unions.{isArm, held};
+ghost use Rattle.format.specs.Kinds.{tpmuPublicParmsArm, tpmuPublicParms};
+ghost use Rattle.steps.specs.Walks.{here, Walks};
+ghost use Rattle.parameters.specs.Parts.{tpmuPublicParmsParts};
+ghost use Rattle.parameters.specs.Answers.{tpmuPublicParmsAnswer};
+
+pub enum TpmuPublicParms {
+    KeyedHash(TpmsKeyedhashParms),
+    SymCipher(TpmsSymcipherParms),
+    Rsa(TpmsRsaParms),
+    Ecc(TpmsEccParms),
+    Null,
+}
+
+pub enum TpmuPublicParmsRead {
+    Found(TpmuPublicParms, usize),
+    No(Refusal),
+}
+
+impl TpmuPublicParms {
+    pub fn unmarshal_tagged(tag: TpmAlgId, s: &[u8], at: usize) -> TpmuPublicParmsRead
+        ensures { λ r. ⌜ tpmuPublicParmsAnswer r ≡ read (tpmuPublicParms (tag .0)) (now (s .entry)) at ⌝ }
+    {
+        let v = tag.0;
+        match v {
+            registry::KEYED_HASH => match TpmsKeyedhashParms::unmarshal(s, at) {
+                TpmsKeyedhashParmsRead::Found(x, e) => TpmuPublicParmsRead::Found(
+                    TpmuPublicParms::KeyedHash(x),
+                    e,
+                ),
+                TpmsKeyedhashParmsRead::No(f) => TpmuPublicParmsRead::No(f),
+            },
+            registry::SYM_CIPHER => match TpmsSymcipherParms::unmarshal(s, at) {
+                TpmsSymcipherParmsRead::Found(x, e) => TpmuPublicParmsRead::Found(
+                    TpmuPublicParms::SymCipher(x),
+                    e,
+                ),
+                TpmsSymcipherParmsRead::No(f) => TpmuPublicParmsRead::No(f),
+            },
+            registry::RSA => match TpmsRsaParms::unmarshal(s, at) {
+                TpmsRsaParmsRead::Found(x, e) => TpmuPublicParmsRead::Found(
+                    TpmuPublicParms::Rsa(x),
+                    e,
+                ),
+                TpmsRsaParmsRead::No(f) => TpmuPublicParmsRead::No(f),
+            },
+            registry::ECC => match TpmsEccParms::unmarshal(s, at) {
+                TpmsEccParmsRead::Found(x, e) => TpmuPublicParmsRead::Found(
+                    TpmuPublicParms::Ecc(x),
+                    e,
+                ),
+                TpmsEccParmsRead::No(f) => TpmuPublicParmsRead::No(f),
+            },
+            registry::NULL => TpmuPublicParmsRead::Found(TpmuPublicParms::Null, at),
+            _ => TpmuPublicParmsRead::No(Refusal::no_arm(at, wide(v))),
+        }
+    }
+
+    // Whether the payload is the arm that the selector chooses.
+    pub fn matches_tag(self, tag: TpmAlgId) -> bool
+        ensures { λ r. ⌜ r ≡ isArm (tpmuPublicParmsArm (tag .0)) (held (tpmuPublicParmsParts self)) ⌝ }
+    {
+        let v = tag.0;
+        match self {
+            TpmuPublicParms::KeyedHash(_) => v == registry::KEYED_HASH,
+            TpmuPublicParms::SymCipher(_) => v == registry::SYM_CIPHER,
+            TpmuPublicParms::Rsa(_) => v == registry::RSA,
+            TpmuPublicParms::Ecc(_) => v == registry::ECC,
+            TpmuPublicParms::Null => v == registry::NULL,
+        }
+    }
+
+    pub fn walk_tagged(self, tag: TpmAlgId, w: Walk, src: &[u8], out: &mut [u8]) -> Walk
+        ensures { λ r. ⌜ Walks 13 (tpmuPublicParms (tag .0)) (tpmuPublicParmsParts self) [] (now (src .entry)) (here w (now (out .entry))) (here r (now (out .exit))) ⌝ }
+    {
+        let v = w.due(tag.0, tag.public_parms_arm(), self.matches_tag(tag));
+        match self {
+            TpmuPublicParms::KeyedHash(x) => x.walk(v, src, out),
+            TpmuPublicParms::SymCipher(x) => x.walk(v, src, out),
+            TpmuPublicParms::Rsa(x) => x.walk(v, src, out),
+            TpmuPublicParms::Ecc(x) => x.walk(v, src, out),
+            TpmuPublicParms::Null => v,
+        }
+    }
+}

@@ -1,0 +1,10 @@
+-- What was read is walked over. Assumes nothing.
+use borrow.Author.Needs.{needs}
+use Rattle.schemes.specs.Answers.{tpmtEccSchemeAnswer}
+use Rattle.records.proofs.Walked.{as-walked, not-walked}
+use Rattle.records.proofs.walk.ecc_scheme_walk.Tie as tie
+
+pub ecc-scheme-walk-spec : {M : Type 1} → Rattle.records.proofs.walk.ecc_scheme_walk.Statement.statement M
+ecc-scheme-walk-spec = tie.close (tie.spec
+    (search needs) (search needs) (search needs) (search needs) (search needs) (search needs) (λ c. search (as-walked tpmtEccSchemeAnswer))
+    (λ c. search (not-walked tpmtEccSchemeAnswer)))

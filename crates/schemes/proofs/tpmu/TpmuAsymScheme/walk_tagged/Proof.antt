@@ -1,0 +1,13 @@
+-- The fields of the arm that is held, behind where it is due. Assumes nothing.
+use borrow.Author.Needs.{needs}
+use Rattle.format.specs.Kinds.{tpmuAsymSchemeArm, tpmuAsymSchemeBody, tpmuAsymScheme}
+use Rattle.steps.proofs.Search.{by-arm, walking}
+use Rattle.schemes.specs.Parts.{tpmuAsymSchemeParts}
+use Rattle.schemes.proofs.tpmu.TpmuAsymScheme.walk_tagged.Tie as tie
+
+pub walk-tagged-spec : {M : Type 1} → Rattle.schemes.proofs.tpmu.TpmuAsymScheme.walk_tagged.Statement.statement M
+unfolding tpmuAsymScheme
+walk-tagged-spec = tie.close (tie.spec
+    (search needs) (search needs) (search needs) (search needs) (search needs) (search needs) (search needs)
+    (λ c. search (by-arm tpmuAsymSchemeParts tpmuAsymSchemeArm tpmuAsymSchemeBody, walking))
+    (λ c. search (by-arm tpmuAsymSchemeParts tpmuAsymSchemeArm tpmuAsymSchemeBody, walking)))

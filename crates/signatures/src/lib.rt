@@ -1,0 +1,4 @@
+// Signatures: kind 10. Files and names are the Rust crate's.
+pub mod tpms;
+pub mod tpmt;
+pub mod tpmu;

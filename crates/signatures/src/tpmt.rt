@@ -1,0 +1,116 @@
+// Kind 10: the selector and the signature. It has the calls that a kind has (ciphers, tpmt.rt).
+use crate::tpmu::TpmuSignature;
+use crate::tpmu::TpmuSignatureRead;
+use format::codes::TpmAlgId;
+use format::codes::TpmAlgIdRead;
+use steps::walk::Walk;
+use steps::walk::judging;
+use steps::walk::seeking;
+use wire::fault::Refusal;
+use wire::measure::Measure;
+use wire::read::nothing_behind;
+ghost use mathlib.Core.Path.{_≡_};
+ghost use mathlib.Core.List.{[]};
+ghost use Rattle.wire.specs.Answers.{measureAnswer};
+ghost use Rattle.wire.specs.Faults.{noField};
+ghost use Rattle.wire.specs.Reading.{read, readWhole, refused};
+ghost use Rattle.wire.specs.Fields.{partOf, sizeOf, fieldOf};
+ghost use Rattle.format.specs.Kinds.{tpmtSignature};
+ghost use Rattle.steps.specs.Walks.{here, Walks};
+ghost use Rattle.steps.specs.Writes.{Writes};
+ghost use Rattle.signatures.specs.Answers.{tpmtSignatureAnswer};
+ghost use Rattle.signatures.specs.Parts.{tpmtSignatureParts};
+
+pub struct TpmtSignature {
+    pub sig_alg: TpmAlgId,
+    pub signature: TpmuSignature,
+}
+
+pub enum TpmtSignatureRead {
+    Found(TpmtSignature, usize),
+    No(Refusal),
+}
+
+impl TpmtSignature {
+    // Kind 10, TPMT_SIGNATURE, read.
+    pub fn unmarshal(s: &[u8], at: usize) -> TpmtSignatureRead
+        ensures { λ r. ⌜ tpmtSignatureAnswer r ≡ read tpmtSignature (now (s .entry)) at ⌝ }
+    {
+        let mut end = at;
+        let sig_alg = match TpmAlgId::unmarshal(s, end) {
+            TpmAlgIdRead::Found(v, e) => {
+                end = e;
+                v
+            }
+            TpmAlgIdRead::No(f) => return TpmtSignatureRead::No(f),
+        };
+        let signature = match TpmuSignature::unmarshal_tagged(sig_alg, s, end) {
+            TpmuSignatureRead::Found(v, e) => {
+                end = e;
+                v
+            }
+            TpmuSignatureRead::No(f) => return TpmtSignatureRead::No(f),
+        };
+        TpmtSignatureRead::Found(
+            TpmtSignature {
+                sig_alg: sig_alg,
+                signature: signature,
+            },
+            end,
+        )
+    }
+
+    pub fn whole(s: &[u8], at: usize) -> TpmtSignatureRead
+        ensures { λ r. ⌜ tpmtSignatureAnswer r ≡ readWhole tpmtSignature (now (s .entry)) at ⌝ }
+    {
+        match TpmtSignature::unmarshal(s, at) {
+            TpmtSignatureRead::Found(x, e) => match nothing_behind(s, e) {
+                Measure::Size(_) => TpmtSignatureRead::Found(x, e),
+                Measure::No(f) => TpmtSignatureRead::No(f),
+            },
+            TpmtSignatureRead::No(f) => TpmtSignatureRead::No(f),
+        }
+    }
+
+    pub fn walk(self, w: Walk, src: &[u8], out: &mut [u8]) -> Walk
+        ensures { λ r. ⌜ Walks 5 tpmtSignature (tpmtSignatureParts self) [] (now (src .entry)) (here w (now (out .entry))) (here r (now (out .exit))) ⌝ }
+    {
+        let sig_alg = self.sig_alg;
+        let signature = self.signature;
+        signature.walk_tagged(sig_alg, w.algorithm(sig_alg, out), src, out)
+    }
+
+    pub fn marshal(self, src: &[u8], out: &mut [u8]) -> Measure
+        ensures { λ r. ⌜ Writes tpmtSignature (tpmtSignatureParts self) (now (src .entry)) (now (out .entry)) r (now (out .exit)) ⌝ }
+    {
+        let judged = self.walk(judging(0), src, out);
+        self.walk(judged.ready(out.len()), src, out).answer()
+    }
+
+    pub fn field<'a>(self, s: &'a [u8], index: usize) -> &'a [u8]
+        ensures { λ r. ⌜ now r ≡ partOf (fieldOf (tpmtSignatureParts self) index (now (s .entry))) ⌝ }
+    {
+        let mut none = [0u8; 1];
+        self.walk(seeking(index), s, &mut none).part(s)
+    }
+
+    pub fn field_size(self, s: &[u8], index: usize) -> Measure
+        ensures { λ r. ⌜ measureAnswer r ≡ sizeOf (fieldOf (tpmtSignatureParts self) index (now (s .entry))) ⌝ }
+    {
+        let mut none = [0u8; 1];
+        self.walk(seeking(index), s, &mut none).size(s, index)
+    }
+
+    // It has no list.
+    pub fn item<'a>(self, s: &'a [u8], index: usize) -> &'a [u8]
+        ensures { λ r. ⌜ now r ≡ [] ⌝ }
+    {
+        &s[0..0]
+    }
+
+    pub fn item_size(self, s: &[u8], index: usize) -> Measure
+        ensures { λ r. ⌜ measureAnswer r ≡ refused (noField index) ⌝ }
+    {
+        Measure::No(Refusal::no_field(index))
+    }
+}

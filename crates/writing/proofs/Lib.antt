@@ -1,2 +1,0 @@
-pub mod Marshalled
-pub mod Promises
