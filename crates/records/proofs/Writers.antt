@@ -1,19 +1,20 @@
 -- The promises of writing, for the code: what follows from `Writes`, which every writer ensures, and from `Copies`. Assumes nothing.
 use Prim.Native.Nat.{ℕ, _-_, _≤_, _<_}
-use mathlib.Core.Path.{_≡_, sym, ap, _∙_}
+use mathlib.Core.Path.{_≡_, refl, sym, ap, _∙_}
 use mathlib.Core.Logic.{_⊎_}
-use mathlib.Core.List.{List, _++_}
+use mathlib.Core.List.{List, [], _++_}
 use lib.ListN.{length, take, drop}
 use Rattle.wire.specs.declared.fault.Refusal.{Refusal}
 use Rattle.wire.specs.declared.measure.Measure.{Measure}
 use Rattle.wire.specs.Answers.{measureAnswer}
 use Rattle.wire.specs.Bytes.{Bytes}
-use Rattle.wire.specs.Faults.{noRoom}
+use Rattle.wire.specs.Faults.{noRoom, noField}
 use Rattle.wire.specs.Layout.{Layout}
-use Rattle.wire.specs.Reading.{Part, found, parsed, read}
+use Rattle.wire.specs.Reading.{Part, found, refused, parsed, read}
 use Rattle.wire.specs.Grammar.{Spells, shown}
 use Rattle.wire.specs.Writing.{lay}
 use Rattle.wire.specs.Filling.{written}
+use Rattle.wire.specs.Items.{itemOf}
 use Rattle.wire.specs.Unwritten.{Unwritten}
 use Rattle.wire.proofs.Answers.{measure-answer-once}
 use Rattle.format.specs.Kinds.{layoutOf}
@@ -94,6 +95,13 @@ module _ (k : ℕ) {ps : List Part} {src old last : List ℕ} {r : Measure} (w :
   -- a legal record for which there is no room is refused for that
   pub legal-record-needs-room : {bs : List ℕ} → Within src ps → Spells (layoutOf k) (shown src ps) bs → length old < length bs → r ≡ Measure.No (noRoom 0 (length bs))
   legal-record-needs-room within d short = answers (Measure.No _) (rewritten.legal-record-needs-room k ps src old within d short)
+
+-- ---- the items of a record without a list
+
+-- there are none, whatever the list's items would be: what the twelve kinds without a list answer is what `itemOf` says
+pub no-list-no-item : (m : ℕ) (item : Layout) (i : ℕ) (src : List ℕ) → itemOf m item [] i src ≡ refused (noField i)
+unfolding itemOf
+no-list-no-item m item i src = refl
 
 -- ---- a record copied by its kind's number
 
