@@ -9,6 +9,8 @@ use format::limits;
 use format::list::ListOf;
 use format::uint::Uint32Read;
 use format::uint::magic_number;
+use lists::item::item;
+use lists::item::item_size;
 use steps::walk::Walk;
 use steps::walk::judging;
 use steps::walk::list_seeking;
@@ -84,7 +86,7 @@ impl TpmsAttest {
             }
             SpanRead::No(f) => return TpmsAttestRead::No(f),
         };
-        TpmsAttest::attested(magic, attest_type, signer, extra, s, end)
+        Self::attested(magic, attest_type, signer, extra, s, end)
     }
 
     // Reads on behind the data, from the clock to what is attested; the fields already read are handed in.
@@ -121,14 +123,14 @@ impl TpmsAttest {
             TpmuAttestRead::No(f) => return TpmsAttestRead::No(f),
         };
         TpmsAttestRead::Found(
-            TpmsAttest {
-                magic: magic,
+            Self {
+                magic,
                 attest_type: kind,
                 qualified_signer: signer,
                 extra_data: extra,
-                clock_info: clock_info,
-                firmware_version: firmware_version,
-                attested: attested,
+                clock_info,
+                firmware_version,
+                attested,
             },
             end,
         )
@@ -137,7 +139,7 @@ impl TpmsAttest {
     pub fn whole(s: &[u8], at: usize) -> TpmsAttestRead
         ensures { λ r. ⌜ tpmsAttestAnswer r ≡ readWhole tpmsAttest (now (s .entry)) at ⌝ }
     {
-        match TpmsAttest::unmarshal(s, at) {
+        match Self::unmarshal(s, at) {
             TpmsAttestRead::Found(x, e) => match nothing_behind(s, e) {
                 Measure::Size(_) => TpmsAttestRead::Found(x, e),
                 Measure::No(f) => TpmsAttestRead::No(f),
@@ -149,19 +151,18 @@ impl TpmsAttest {
     pub fn walk(self, w: Walk, src: &[u8], out: &mut [u8]) -> Walk
         ensures { λ r. ⌜ Walks 16 tpmsAttest (tpmsAttestParts self) (tpmuAttestLists (self .attested)) (now (src .entry)) (here w (now (out .entry))) (here r (now (out .exit))) ⌝ }
     {
-        let magic = self.magic;
-        let attest_type = self.attest_type;
-        let qualified_signer = self.qualified_signer;
-        let extra_data = self.extra_data;
-        let clock_info = self.clock_info;
-        let firmware_version = self.firmware_version;
         let attested = self.attested;
-        let v = w.magic(magic, out)
-            .attestation(attest_type, out)
-            .buffer(limits::MAX_NAME_SIZE, qualified_signer, src, out)
-            .buffer(limits::MAX_DATA_SIZE, extra_data, src, out);
-        let u = clock_info.walk(v, src, out);
-        attested.walk_tagged(attest_type, u.uint64(firmware_version, out), src, out)
+        let v = w.magic(self.magic, out)
+            .attestation(self.attest_type, out)
+            .buffer(limits::MAX_NAME_SIZE, self.qualified_signer, src, out)
+            .buffer(limits::MAX_DATA_SIZE, self.extra_data, src, out);
+        let u = self.clock_info.walk(v, src, out);
+        attested.walk_tagged(
+            self.attest_type,
+            u.uint64(self.firmware_version, out),
+            src,
+            out,
+        )
     }
 
     pub fn marshal(self, src: &[u8], out: &mut [u8]) -> Measure
@@ -174,30 +175,26 @@ impl TpmsAttest {
     pub fn field<'a>(self, s: &'a [u8], index: usize) -> &'a [u8]
         ensures { λ r. ⌜ now r ≡ partOf (fieldOf (tpmsAttestParts self) index (now (s .entry))) ⌝ }
     {
-        let mut none = [0u8; 1];
-        self.walk(seeking(index), s, &mut none).part(s)
+        self.walk(seeking(index), s, &mut []).part(s)
     }
 
     pub fn field_size(self, s: &[u8], index: usize) -> Measure
         ensures { λ r. ⌜ measureAnswer r ≡ sizeOf (fieldOf (tpmsAttestParts self) index (now (s .entry))) ⌝ }
     {
-        let mut none = [0u8; 1];
-        self.walk(seeking(index), s, &mut none).size(s, index)
+        self.walk(seeking(index), s, &mut []).size(s, index)
     }
 
     pub fn item<'a>(self, s: &'a [u8], index: usize) -> &'a [u8]
         ensures { λ r. ⌜ now r ≡ partOf (itemOf (mostItems PcrSelection) (itemLayout PcrSelection) (tpmuAttestLists (self .attested)) index (now (s .entry))) ⌝ }
     {
-        let mut none = [0u8; 1];
-        self.walk(list_seeking(), s, &mut none)
-            .item(ListOf::PcrSelection, s, index)
+        let found = self.walk(list_seeking(), s, &mut []);
+        item(found, ListOf::PcrSelection, s, index)
     }
 
     pub fn item_size(self, s: &[u8], index: usize) -> Measure
         ensures { λ r. ⌜ measureAnswer r ≡ sizeOf (itemOf (mostItems PcrSelection) (itemLayout PcrSelection) (tpmuAttestLists (self .attested)) index (now (s .entry))) ⌝ }
     {
-        let mut none = [0u8; 1];
-        self.walk(list_seeking(), s, &mut none)
-            .item_size(ListOf::PcrSelection, s, index)
+        let found = self.walk(list_seeking(), s, &mut []);
+        item_size(found, ListOf::PcrSelection, s, index)
     }
 }

@@ -1,7 +1,10 @@
 // Kind 14, the PCR selection list: a count, and so many items. A record keeps the whole list as one span. It has the calls that a kind
 // has (ciphers, tpmt.rt).
 use format::list::ListOf;
-use steps::list::list_end;
+use lists::item::item;
+use lists::item::item_size;
+use lists::list::list;
+use lists::list::list_end;
 use steps::walk::Walk;
 use steps::walk::judging;
 use steps::walk::list_seeking;
@@ -40,7 +43,7 @@ impl TpmlPcrSelection {
             Measure::Size(e) => {
                 let len = e - at;
                 TpmlPcrSelectionRead::Found(
-                    TpmlPcrSelection {
+                    Self {
                         items: Span::new(at, len),
                     },
                     e,
@@ -53,7 +56,7 @@ impl TpmlPcrSelection {
     pub fn whole(s: &[u8], at: usize) -> TpmlPcrSelectionRead
         ensures { λ r. ⌜ tpmlPcrSelectionAnswer r ≡ readWhole tpmlPcrSelection (now (s .entry)) at ⌝ }
     {
-        match TpmlPcrSelection::unmarshal(s, at) {
+        match Self::unmarshal(s, at) {
             TpmlPcrSelectionRead::Found(x, e) => match nothing_behind(s, e) {
                 Measure::Size(_) => TpmlPcrSelectionRead::Found(x, e),
                 Measure::No(f) => TpmlPcrSelectionRead::No(f),
@@ -65,8 +68,7 @@ impl TpmlPcrSelection {
     pub fn walk(self, w: Walk, src: &[u8], out: &mut [u8]) -> Walk
         ensures { λ r. ⌜ Walks 1 tpmlPcrSelection (tpmlPcrSelectionParts self) (tpmlPcrSelectionParts self) (now (src .entry)) (here w (now (out .entry))) (here r (now (out .exit))) ⌝ }
     {
-        let items = self.items;
-        w.list(ListOf::PcrSelection, items, src, out)
+        list(w, ListOf::PcrSelection, self.items, src, out)
     }
 
     pub fn marshal(self, src: &[u8], out: &mut [u8]) -> Measure
@@ -79,30 +81,26 @@ impl TpmlPcrSelection {
     pub fn field<'a>(self, s: &'a [u8], index: usize) -> &'a [u8]
         ensures { λ r. ⌜ now r ≡ partOf (fieldOf (tpmlPcrSelectionParts self) index (now (s .entry))) ⌝ }
     {
-        let mut none = [0u8; 1];
-        self.walk(seeking(index), s, &mut none).part(s)
+        self.walk(seeking(index), s, &mut []).part(s)
     }
 
     pub fn field_size(self, s: &[u8], index: usize) -> Measure
         ensures { λ r. ⌜ measureAnswer r ≡ sizeOf (fieldOf (tpmlPcrSelectionParts self) index (now (s .entry))) ⌝ }
     {
-        let mut none = [0u8; 1];
-        self.walk(seeking(index), s, &mut none).size(s, index)
+        self.walk(seeking(index), s, &mut []).size(s, index)
     }
 
     pub fn item<'a>(self, s: &'a [u8], index: usize) -> &'a [u8]
         ensures { λ r. ⌜ now r ≡ partOf (itemOf (mostItems PcrSelection) (itemLayout PcrSelection) (tpmlPcrSelectionParts self) index (now (s .entry))) ⌝ }
     {
-        let mut none = [0u8; 1];
-        self.walk(list_seeking(), s, &mut none)
-            .item(ListOf::PcrSelection, s, index)
+        let found = self.walk(list_seeking(), s, &mut []);
+        item(found, ListOf::PcrSelection, s, index)
     }
 
     pub fn item_size(self, s: &[u8], index: usize) -> Measure
         ensures { λ r. ⌜ measureAnswer r ≡ sizeOf (itemOf (mostItems PcrSelection) (itemLayout PcrSelection) (tpmlPcrSelectionParts self) index (now (s .entry))) ⌝ }
     {
-        let mut none = [0u8; 1];
-        self.walk(list_seeking(), s, &mut none)
-            .item_size(ListOf::PcrSelection, s, index)
+        let found = self.walk(list_seeking(), s, &mut []);
+        item_size(found, ListOf::PcrSelection, s, index)
     }
 }

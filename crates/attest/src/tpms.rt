@@ -166,11 +166,11 @@ impl TpmsClockInfo {
             Uint8Read::No(f) => return TpmsClockInfoRead::No(f),
         };
         TpmsClockInfoRead::Found(
-            TpmsClockInfo {
-                clock: clock,
-                reset_count: reset_count,
-                restart_count: restart_count,
-                safe: safe,
+            Self {
+                clock,
+                reset_count,
+                restart_count,
+                safe,
             },
             end,
         )
@@ -179,14 +179,10 @@ impl TpmsClockInfo {
     pub fn walk(self, w: Walk, src: &[u8], out: &mut [u8]) -> Walk
         ensures { λ r. ⌜ Walks 4 tpmsClockInfo (tpmsClockInfoParts self) [] (now (src .entry)) (here w (now (out .entry))) (here r (now (out .exit))) ⌝ }
     {
-        let clock = self.clock;
-        let reset_count = self.reset_count;
-        let restart_count = self.restart_count;
-        let safe = self.safe;
-        w.uint64(clock, out)
-            .uint32(reset_count, out)
-            .uint32(restart_count, out)
-            .yes_no(safe, out)
+        w.uint64(self.clock, out)
+            .uint32(self.reset_count, out)
+            .uint32(self.restart_count, out)
+            .yes_no(self.safe, out)
     }
 }
 
@@ -210,21 +206,13 @@ impl TpmsTimeInfo {
             }
             TpmsClockInfoRead::No(f) => return TpmsTimeInfoRead::No(f),
         };
-        TpmsTimeInfoRead::Found(
-            TpmsTimeInfo {
-                time: time,
-                clock_info: clock_info,
-            },
-            end,
-        )
+        TpmsTimeInfoRead::Found(Self { time, clock_info }, end)
     }
 
     pub fn walk(self, w: Walk, src: &[u8], out: &mut [u8]) -> Walk
         ensures { λ r. ⌜ Walks 5 tpmsTimeInfo (tpmsTimeInfoParts self) [] (now (src .entry)) (here w (now (out .entry))) (here r (now (out .exit))) ⌝ }
     {
-        let time = self.time;
-        let clock_info = self.clock_info;
-        clock_info.walk(w.uint64(time, out), src, out)
+        self.clock_info.walk(w.uint64(self.time, out), src, out)
     }
 }
 
@@ -249,9 +237,9 @@ impl TpmsCertifyInfo {
             SpanRead::No(f) => return TpmsCertifyInfoRead::No(f),
         };
         TpmsCertifyInfoRead::Found(
-            TpmsCertifyInfo {
-                name: name,
-                qualified_name: qualified_name,
+            Self {
+                name,
+                qualified_name,
             },
             end,
         )
@@ -260,10 +248,8 @@ impl TpmsCertifyInfo {
     pub fn walk(self, w: Walk, src: &[u8], out: &mut [u8]) -> Walk
         ensures { λ r. ⌜ Walks 2 tpmsCertifyInfo (tpmsCertifyInfoParts self) [] (now (src .entry)) (here w (now (out .entry))) (here r (now (out .exit))) ⌝ }
     {
-        let name = self.name;
-        let qualified_name = self.qualified_name;
-        w.buffer(limits::MAX_NAME_SIZE, name, src, out)
-            .buffer(limits::MAX_NAME_SIZE, qualified_name, src, out)
+        w.buffer(limits::MAX_NAME_SIZE, self.name, src, out)
+            .buffer(limits::MAX_NAME_SIZE, self.qualified_name, src, out)
     }
 }
 
@@ -288,9 +274,9 @@ impl TpmsCreationInfo {
             SpanRead::No(f) => return TpmsCreationInfoRead::No(f),
         };
         TpmsCreationInfoRead::Found(
-            TpmsCreationInfo {
-                object_name: object_name,
-                creation_hash: creation_hash,
+            Self {
+                object_name,
+                creation_hash,
             },
             end,
         )
@@ -299,10 +285,8 @@ impl TpmsCreationInfo {
     pub fn walk(self, w: Walk, src: &[u8], out: &mut [u8]) -> Walk
         ensures { λ r. ⌜ Walks 2 tpmsCreationInfo (tpmsCreationInfoParts self) [] (now (src .entry)) (here w (now (out .entry))) (here r (now (out .exit))) ⌝ }
     {
-        let object_name = self.object_name;
-        let creation_hash = self.creation_hash;
-        w.buffer(limits::MAX_NAME_SIZE, object_name, src, out)
-            .buffer(limits::MAX_DIGEST_SIZE, creation_hash, src, out)
+        w.buffer(limits::MAX_NAME_SIZE, self.object_name, src, out)
+            .buffer(limits::MAX_DIGEST_SIZE, self.creation_hash, src, out)
     }
 }
 
@@ -327,9 +311,9 @@ impl TpmsQuoteInfo {
             SpanRead::No(f) => return TpmsQuoteInfoRead::No(f),
         };
         TpmsQuoteInfoRead::Found(
-            TpmsQuoteInfo {
-                pcr_select: pcr_select,
-                pcr_digest: pcr_digest,
+            Self {
+                pcr_select,
+                pcr_digest,
             },
             end,
         )
@@ -338,10 +322,8 @@ impl TpmsQuoteInfo {
     pub fn walk(self, w: Walk, src: &[u8], out: &mut [u8]) -> Walk
         ensures { λ r. ⌜ Walks 2 tpmsQuoteInfo (tpmsQuoteInfoParts self) (tpmlPcrSelectionParts (self .«pcr_select»)) (now (src .entry)) (here w (now (out .entry))) (here r (now (out .exit))) ⌝ }
     {
-        let pcr_select = self.pcr_select;
-        let pcr_digest = self.pcr_digest;
-        let v = pcr_select.walk(w, src, out);
-        v.buffer(limits::MAX_DIGEST_SIZE, pcr_digest, src, out)
+        let v = self.pcr_select.walk(w, src, out);
+        v.buffer(limits::MAX_DIGEST_SIZE, self.pcr_digest, src, out)
     }
 }
 
@@ -380,11 +362,11 @@ impl TpmsCommandAuditInfo {
             SpanRead::No(f) => return TpmsCommandAuditInfoRead::No(f),
         };
         TpmsCommandAuditInfoRead::Found(
-            TpmsCommandAuditInfo {
-                audit_counter: audit_counter,
-                digest_alg: digest_alg,
-                audit_digest: audit_digest,
-                command_digest: command_digest,
+            Self {
+                audit_counter,
+                digest_alg,
+                audit_digest,
+                command_digest,
             },
             end,
         )
@@ -393,14 +375,10 @@ impl TpmsCommandAuditInfo {
     pub fn walk(self, w: Walk, src: &[u8], out: &mut [u8]) -> Walk
         ensures { λ r. ⌜ Walks 4 tpmsCommandAuditInfo (tpmsCommandAuditInfoParts self) [] (now (src .entry)) (here w (now (out .entry))) (here r (now (out .exit))) ⌝ }
     {
-        let audit_counter = self.audit_counter;
-        let digest_alg = self.digest_alg;
-        let audit_digest = self.audit_digest;
-        let command_digest = self.command_digest;
-        w.uint64(audit_counter, out)
-            .algorithm(digest_alg, out)
-            .buffer(limits::MAX_DIGEST_SIZE, audit_digest, src, out)
-            .buffer(limits::MAX_DIGEST_SIZE, command_digest, src, out)
+        w.uint64(self.audit_counter, out)
+            .algorithm(self.digest_alg, out)
+            .buffer(limits::MAX_DIGEST_SIZE, self.audit_digest, src, out)
+            .buffer(limits::MAX_DIGEST_SIZE, self.command_digest, src, out)
     }
 }
 
@@ -425,9 +403,9 @@ impl TpmsSessionAuditInfo {
             SpanRead::No(f) => return TpmsSessionAuditInfoRead::No(f),
         };
         TpmsSessionAuditInfoRead::Found(
-            TpmsSessionAuditInfo {
-                exclusive_session: exclusive_session,
-                session_digest: session_digest,
+            Self {
+                exclusive_session,
+                session_digest,
             },
             end,
         )
@@ -436,10 +414,8 @@ impl TpmsSessionAuditInfo {
     pub fn walk(self, w: Walk, src: &[u8], out: &mut [u8]) -> Walk
         ensures { λ r. ⌜ Walks 2 tpmsSessionAuditInfo (tpmsSessionAuditInfoParts self) [] (now (src .entry)) (here w (now (out .entry))) (here r (now (out .exit))) ⌝ }
     {
-        let exclusive_session = self.exclusive_session;
-        let session_digest = self.session_digest;
-        w.yes_no(exclusive_session, out)
-            .buffer(limits::MAX_DIGEST_SIZE, session_digest, src, out)
+        w.yes_no(self.exclusive_session, out)
+            .buffer(limits::MAX_DIGEST_SIZE, self.session_digest, src, out)
     }
 }
 
@@ -464,9 +440,9 @@ impl TpmsTimeAttestInfo {
             NumberRead::No(f) => return TpmsTimeAttestInfoRead::No(f),
         };
         TpmsTimeAttestInfoRead::Found(
-            TpmsTimeAttestInfo {
-                time: time,
-                firmware_version: firmware_version,
+            Self {
+                time,
+                firmware_version,
             },
             end,
         )
@@ -475,10 +451,8 @@ impl TpmsTimeAttestInfo {
     pub fn walk(self, w: Walk, src: &[u8], out: &mut [u8]) -> Walk
         ensures { λ r. ⌜ Walks 6 tpmsTimeAttestInfo (tpmsTimeAttestInfoParts self) [] (now (src .entry)) (here w (now (out .entry))) (here r (now (out .exit))) ⌝ }
     {
-        let time = self.time;
-        let firmware_version = self.firmware_version;
-        let v = time.walk(w, src, out);
-        v.uint64(firmware_version, out)
+        let v = self.time.walk(w, src, out);
+        v.uint64(self.firmware_version, out)
     }
 }
 
@@ -510,10 +484,10 @@ impl TpmsNvCertifyInfo {
             SpanRead::No(f) => return TpmsNvCertifyInfoRead::No(f),
         };
         TpmsNvCertifyInfoRead::Found(
-            TpmsNvCertifyInfo {
-                index_name: index_name,
-                offset: offset,
-                nv_contents: nv_contents,
+            Self {
+                index_name,
+                offset,
+                nv_contents,
             },
             end,
         )
@@ -522,12 +496,9 @@ impl TpmsNvCertifyInfo {
     pub fn walk(self, w: Walk, src: &[u8], out: &mut [u8]) -> Walk
         ensures { λ r. ⌜ Walks 3 tpmsNvCertifyInfo (tpmsNvCertifyInfoParts self) [] (now (src .entry)) (here w (now (out .entry))) (here r (now (out .exit))) ⌝ }
     {
-        let index_name = self.index_name;
-        let offset = self.offset;
-        let nv_contents = self.nv_contents;
-        w.buffer(limits::MAX_NAME_SIZE, index_name, src, out)
-            .uint16(offset, out)
-            .buffer(limits::MAX_NV_BUFFER_SIZE, nv_contents, src, out)
+        w.buffer(limits::MAX_NAME_SIZE, self.index_name, src, out)
+            .uint16(self.offset, out)
+            .buffer(limits::MAX_NV_BUFFER_SIZE, self.nv_contents, src, out)
     }
 }
 
@@ -552,9 +523,9 @@ impl TpmsNvDigestCertifyInfo {
             SpanRead::No(f) => return TpmsNvDigestCertifyInfoRead::No(f),
         };
         TpmsNvDigestCertifyInfoRead::Found(
-            TpmsNvDigestCertifyInfo {
-                index_name: index_name,
-                nv_digest: nv_digest,
+            Self {
+                index_name,
+                nv_digest,
             },
             end,
         )
@@ -563,9 +534,7 @@ impl TpmsNvDigestCertifyInfo {
     pub fn walk(self, w: Walk, src: &[u8], out: &mut [u8]) -> Walk
         ensures { λ r. ⌜ Walks 2 tpmsNvDigestCertifyInfo (tpmsNvDigestCertifyInfoParts self) [] (now (src .entry)) (here w (now (out .entry))) (here r (now (out .exit))) ⌝ }
     {
-        let index_name = self.index_name;
-        let nv_digest = self.nv_digest;
-        w.buffer(limits::MAX_NAME_SIZE, index_name, src, out)
-            .buffer(limits::MAX_DIGEST_SIZE, nv_digest, src, out)
+        w.buffer(limits::MAX_NAME_SIZE, self.index_name, src, out)
+            .buffer(limits::MAX_DIGEST_SIZE, self.nv_digest, src, out)
     }
 }

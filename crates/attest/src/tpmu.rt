@@ -1,4 +1,4 @@
-// The union of attestations: what the TPM attests to, by the attestation's type.
+// The union of attestations: what the TPM attests to, by the attestation's type. It has the calls that a union has (ciphers, tpmu.rt).
 use crate::tpms::TpmsCertifyInfo;
 use crate::tpms::TpmsCertifyInfoRead;
 use crate::tpms::TpmsCommandAuditInfo;
@@ -51,51 +51,42 @@ impl TpmuAttest {
         let v = tag.0;
         match v {
             registry::ATTEST_CERTIFY => match TpmsCertifyInfo::unmarshal(s, at) {
-                TpmsCertifyInfoRead::Found(x, e) => TpmuAttestRead::Found(
-                    TpmuAttest::Certify(x),
-                    e,
-                ),
+                TpmsCertifyInfoRead::Found(x, e) => TpmuAttestRead::Found(Self::Certify(x), e),
                 TpmsCertifyInfoRead::No(f) => TpmuAttestRead::No(f),
             },
             registry::ATTEST_CREATION => match TpmsCreationInfo::unmarshal(s, at) {
-                TpmsCreationInfoRead::Found(x, e) => TpmuAttestRead::Found(
-                    TpmuAttest::Creation(x),
-                    e,
-                ),
+                TpmsCreationInfoRead::Found(x, e) => TpmuAttestRead::Found(Self::Creation(x), e),
                 TpmsCreationInfoRead::No(f) => TpmuAttestRead::No(f),
             },
             registry::ATTEST_QUOTE => match TpmsQuoteInfo::unmarshal(s, at) {
-                TpmsQuoteInfoRead::Found(x, e) => TpmuAttestRead::Found(TpmuAttest::Quote(x), e),
+                TpmsQuoteInfoRead::Found(x, e) => TpmuAttestRead::Found(Self::Quote(x), e),
                 TpmsQuoteInfoRead::No(f) => TpmuAttestRead::No(f),
             },
             registry::ATTEST_COMMAND_AUDIT => match TpmsCommandAuditInfo::unmarshal(s, at) {
                 TpmsCommandAuditInfoRead::Found(x, e) => TpmuAttestRead::Found(
-                    TpmuAttest::CommandAudit(x),
+                    Self::CommandAudit(x),
                     e,
                 ),
                 TpmsCommandAuditInfoRead::No(f) => TpmuAttestRead::No(f),
             },
             registry::ATTEST_SESSION_AUDIT => match TpmsSessionAuditInfo::unmarshal(s, at) {
                 TpmsSessionAuditInfoRead::Found(x, e) => TpmuAttestRead::Found(
-                    TpmuAttest::SessionAudit(x),
+                    Self::SessionAudit(x),
                     e,
                 ),
                 TpmsSessionAuditInfoRead::No(f) => TpmuAttestRead::No(f),
             },
             registry::ATTEST_TIME => match TpmsTimeAttestInfo::unmarshal(s, at) {
-                TpmsTimeAttestInfoRead::Found(x, e) => TpmuAttestRead::Found(
-                    TpmuAttest::Time(x),
-                    e,
-                ),
+                TpmsTimeAttestInfoRead::Found(x, e) => TpmuAttestRead::Found(Self::Time(x), e),
                 TpmsTimeAttestInfoRead::No(f) => TpmuAttestRead::No(f),
             },
             registry::ATTEST_NV => match TpmsNvCertifyInfo::unmarshal(s, at) {
-                TpmsNvCertifyInfoRead::Found(x, e) => TpmuAttestRead::Found(TpmuAttest::Nv(x), e),
+                TpmsNvCertifyInfoRead::Found(x, e) => TpmuAttestRead::Found(Self::Nv(x), e),
                 TpmsNvCertifyInfoRead::No(f) => TpmuAttestRead::No(f),
             },
             registry::ATTEST_NV_DIGEST => match TpmsNvDigestCertifyInfo::unmarshal(s, at) {
                 TpmsNvDigestCertifyInfoRead::Found(x, e) => TpmuAttestRead::Found(
-                    TpmuAttest::NvDigest(x),
+                    Self::NvDigest(x),
                     e,
                 ),
                 TpmsNvDigestCertifyInfoRead::No(f) => TpmuAttestRead::No(f),
@@ -104,20 +95,19 @@ impl TpmuAttest {
         }
     }
 
-    // Whether the payload is the arm that the selector chooses.
     pub fn matches_tag(self, tag: TpmSt) -> bool
         ensures { λ r. ⌜ r ≡ isArm (tpmuAttestArm (tag .0)) (held (tpmuAttestParts self)) ⌝ }
     {
         let v = tag.0;
         match self {
-            TpmuAttest::Certify(_) => v == registry::ATTEST_CERTIFY,
-            TpmuAttest::Creation(_) => v == registry::ATTEST_CREATION,
-            TpmuAttest::Quote(_) => v == registry::ATTEST_QUOTE,
-            TpmuAttest::CommandAudit(_) => v == registry::ATTEST_COMMAND_AUDIT,
-            TpmuAttest::SessionAudit(_) => v == registry::ATTEST_SESSION_AUDIT,
-            TpmuAttest::Time(_) => v == registry::ATTEST_TIME,
-            TpmuAttest::Nv(_) => v == registry::ATTEST_NV,
-            TpmuAttest::NvDigest(_) => v == registry::ATTEST_NV_DIGEST,
+            Self::Certify(_) => v == registry::ATTEST_CERTIFY,
+            Self::Creation(_) => v == registry::ATTEST_CREATION,
+            Self::Quote(_) => v == registry::ATTEST_QUOTE,
+            Self::CommandAudit(_) => v == registry::ATTEST_COMMAND_AUDIT,
+            Self::SessionAudit(_) => v == registry::ATTEST_SESSION_AUDIT,
+            Self::Time(_) => v == registry::ATTEST_TIME,
+            Self::Nv(_) => v == registry::ATTEST_NV,
+            Self::NvDigest(_) => v == registry::ATTEST_NV_DIGEST,
         }
     }
 
@@ -126,14 +116,14 @@ impl TpmuAttest {
     {
         let v = w.due(tag.0, tag.attest_arm(), self.matches_tag(tag));
         match self {
-            TpmuAttest::Certify(x) => x.walk(v, src, out),
-            TpmuAttest::Creation(x) => x.walk(v, src, out),
-            TpmuAttest::Quote(x) => x.walk(v, src, out),
-            TpmuAttest::CommandAudit(x) => x.walk(v, src, out),
-            TpmuAttest::SessionAudit(x) => x.walk(v, src, out),
-            TpmuAttest::Time(x) => x.walk(v, src, out),
-            TpmuAttest::Nv(x) => x.walk(v, src, out),
-            TpmuAttest::NvDigest(x) => x.walk(v, src, out),
+            Self::Certify(x) => x.walk(v, src, out),
+            Self::Creation(x) => x.walk(v, src, out),
+            Self::Quote(x) => x.walk(v, src, out),
+            Self::CommandAudit(x) => x.walk(v, src, out),
+            Self::SessionAudit(x) => x.walk(v, src, out),
+            Self::Time(x) => x.walk(v, src, out),
+            Self::Nv(x) => x.walk(v, src, out),
+            Self::NvDigest(x) => x.walk(v, src, out),
         }
     }
 }

@@ -73,19 +73,13 @@ impl TpmtHa {
             }
             TpmuHaRead::No(f) => return TpmtHaRead::No(f),
         };
-        TpmtHaRead::Found(
-            TpmtHa {
-                hash_alg: hash_alg,
-                digest: digest,
-            },
-            end,
-        )
+        TpmtHaRead::Found(Self { hash_alg, digest }, end)
     }
 
     pub fn whole(s: &[u8], at: usize) -> TpmtHaRead
         ensures { λ r. ⌜ tpmtHaAnswer r ≡ readWhole tpmtHa (now (s .entry)) at ⌝ }
     {
-        match TpmtHa::unmarshal(s, at) {
+        match Self::unmarshal(s, at) {
             TpmtHaRead::Found(x, e) => match nothing_behind(s, e) {
                 Measure::Size(_) => TpmtHaRead::Found(x, e),
                 Measure::No(f) => TpmtHaRead::No(f),
@@ -97,9 +91,8 @@ impl TpmtHa {
     pub fn walk(self, w: Walk, src: &[u8], out: &mut [u8]) -> Walk
         ensures { λ r. ⌜ Walks 3 tpmtHa (tpmtHaParts self) [] (now (src .entry)) (here w (now (out .entry))) (here r (now (out .exit))) ⌝ }
     {
-        let hash_alg = self.hash_alg;
         let digest = self.digest;
-        digest.walk_tagged(hash_alg, w.algorithm(hash_alg, out), src, out)
+        digest.walk_tagged(self.hash_alg, w.algorithm(self.hash_alg, out), src, out)
     }
 
     pub fn marshal(self, src: &[u8], out: &mut [u8]) -> Measure
@@ -112,15 +105,13 @@ impl TpmtHa {
     pub fn field<'a>(self, s: &'a [u8], index: usize) -> &'a [u8]
         ensures { λ r. ⌜ now r ≡ partOf (fieldOf (tpmtHaParts self) index (now (s .entry))) ⌝ }
     {
-        let mut none = [0u8; 1];
-        self.walk(seeking(index), s, &mut none).part(s)
+        self.walk(seeking(index), s, &mut []).part(s)
     }
 
     pub fn field_size(self, s: &[u8], index: usize) -> Measure
         ensures { λ r. ⌜ measureAnswer r ≡ sizeOf (fieldOf (tpmtHaParts self) index (now (s .entry))) ⌝ }
     {
-        let mut none = [0u8; 1];
-        self.walk(seeking(index), s, &mut none).size(s, index)
+        self.walk(seeking(index), s, &mut []).size(s, index)
     }
 
     // It has no list.
@@ -165,10 +156,10 @@ impl TpmtSymDef {
             TpmuSymModeRead::No(f) => return TpmtSymDefRead::No(f),
         };
         TpmtSymDefRead::Found(
-            TpmtSymDef {
-                algorithm: algorithm,
-                key_bits: key_bits,
-                mode: mode,
+            Self {
+                algorithm,
+                key_bits,
+                mode,
             },
             end,
         )
@@ -177,7 +168,7 @@ impl TpmtSymDef {
     pub fn whole(s: &[u8], at: usize) -> TpmtSymDefRead
         ensures { λ r. ⌜ tpmtSymDefAnswer r ≡ readWhole tpmtSymDef (now (s .entry)) at ⌝ }
     {
-        match TpmtSymDef::unmarshal(s, at) {
+        match Self::unmarshal(s, at) {
             TpmtSymDefRead::Found(x, e) => match nothing_behind(s, e) {
                 Measure::Size(_) => TpmtSymDefRead::Found(x, e),
                 Measure::No(f) => TpmtSymDefRead::No(f),
@@ -189,11 +180,10 @@ impl TpmtSymDef {
     pub fn walk(self, w: Walk, src: &[u8], out: &mut [u8]) -> Walk
         ensures { λ r. ⌜ Walks 5 tpmtSymDef (tpmtSymDefParts self) [] (now (src .entry)) (here w (now (out .entry))) (here r (now (out .exit))) ⌝ }
     {
-        let algorithm = self.algorithm;
         let key_bits = self.key_bits;
         let mode = self.mode;
-        let v = key_bits.walk_tagged(algorithm, w.algorithm(algorithm, out), src, out);
-        mode.walk_tagged(algorithm, v, src, out)
+        let v = key_bits.walk_tagged(self.algorithm, w.algorithm(self.algorithm, out), src, out);
+        mode.walk_tagged(self.algorithm, v, src, out)
     }
 
     pub fn marshal(self, src: &[u8], out: &mut [u8]) -> Measure
@@ -206,15 +196,13 @@ impl TpmtSymDef {
     pub fn field<'a>(self, s: &'a [u8], index: usize) -> &'a [u8]
         ensures { λ r. ⌜ now r ≡ partOf (fieldOf (tpmtSymDefParts self) index (now (s .entry))) ⌝ }
     {
-        let mut none = [0u8; 1];
-        self.walk(seeking(index), s, &mut none).part(s)
+        self.walk(seeking(index), s, &mut []).part(s)
     }
 
     pub fn field_size(self, s: &[u8], index: usize) -> Measure
         ensures { λ r. ⌜ measureAnswer r ≡ sizeOf (fieldOf (tpmtSymDefParts self) index (now (s .entry))) ⌝ }
     {
-        let mut none = [0u8; 1];
-        self.walk(seeking(index), s, &mut none).size(s, index)
+        self.walk(seeking(index), s, &mut []).size(s, index)
     }
 
     // It has no list.

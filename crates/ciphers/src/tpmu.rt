@@ -1,5 +1,5 @@
-// The unions of kinds 1 and 2. Each reader goes by what the selector chooses, each `matches_tag` says whether the payload is the arm that the selector
-// chooses, and each walk asks that where the arm is due.
+// The unions of kinds 1 and 2, with the calls that a union has: `unmarshal_tagged` reads the arm that the selector chooses, `matches_tag` says whether
+// the payload is that arm, and `walk_tagged` asks it where the arm is due and then goes over what is held.
 use format::codes::DigestLen;
 use format::codes::TpmAlgId;
 use format::codes::TpmAlgIdRead;
@@ -63,10 +63,10 @@ impl TpmuHa {
     {
         match tag.digest_len() {
             DigestLen::Bytes(n) => match plain(s, at, n as usize) {
-                SpanRead::Found(x, e) => TpmuHaRead::Found(TpmuHa::Digest(x), e),
+                SpanRead::Found(x, e) => TpmuHaRead::Found(Self::Digest(x), e),
                 SpanRead::No(f) => TpmuHaRead::No(f),
             },
-            DigestLen::Empty => TpmuHaRead::Found(TpmuHa::Null, at),
+            DigestLen::Empty => TpmuHaRead::Found(Self::Null, at),
             DigestLen::Nothing => TpmuHaRead::No(Refusal::no_arm(at, wide(tag.0))),
         }
     }
@@ -77,12 +77,12 @@ impl TpmuHa {
     {
         match tag.digest_len() {
             DigestLen::Bytes(n) => match self {
-                TpmuHa::Digest(x) => x.len() == n as usize,
-                TpmuHa::Null => false,
+                Self::Digest(x) => x.len() == n as usize,
+                Self::Null => false,
             },
             DigestLen::Empty => match self {
-                TpmuHa::Digest(_) => false,
-                TpmuHa::Null => true,
+                Self::Digest(_) => false,
+                Self::Null => true,
             },
             DigestLen::Nothing => false,
         }
@@ -94,8 +94,8 @@ impl TpmuHa {
         let chosen = tag.ha_arm();
         let v = w.due(tag.0, chosen, self.matches_tag(tag));
         match self {
-            TpmuHa::Null => v,
-            TpmuHa::Digest(x) => v.plain(chosen, x, src, out),
+            Self::Null => v,
+            Self::Digest(x) => v.plain(chosen, x, src, out),
         }
     }
 }
@@ -107,40 +107,36 @@ impl TpmuSymKeyBits {
         let v = tag.0;
         match v {
             registry::AES => match uint16(s, at) {
-                Uint16Read::Found(x, e) => TpmuSymKeyBitsRead::Found(TpmuSymKeyBits::Aes(x), e),
+                Uint16Read::Found(x, e) => TpmuSymKeyBitsRead::Found(Self::Aes(x), e),
                 Uint16Read::No(f) => TpmuSymKeyBitsRead::No(f),
             },
             registry::SM4 => match uint16(s, at) {
-                Uint16Read::Found(x, e) => TpmuSymKeyBitsRead::Found(TpmuSymKeyBits::Sm4(x), e),
+                Uint16Read::Found(x, e) => TpmuSymKeyBitsRead::Found(Self::Sm4(x), e),
                 Uint16Read::No(f) => TpmuSymKeyBitsRead::No(f),
             },
             registry::CAMELLIA => match uint16(s, at) {
-                Uint16Read::Found(x, e) => TpmuSymKeyBitsRead::Found(
-                    TpmuSymKeyBits::Camellia(x),
-                    e,
-                ),
+                Uint16Read::Found(x, e) => TpmuSymKeyBitsRead::Found(Self::Camellia(x), e),
                 Uint16Read::No(f) => TpmuSymKeyBitsRead::No(f),
             },
             registry::XOR => match TpmAlgId::unmarshal(s, at) {
-                TpmAlgIdRead::Found(x, e) => TpmuSymKeyBitsRead::Found(TpmuSymKeyBits::Xor(x), e),
+                TpmAlgIdRead::Found(x, e) => TpmuSymKeyBitsRead::Found(Self::Xor(x), e),
                 TpmAlgIdRead::No(f) => TpmuSymKeyBitsRead::No(f),
             },
-            registry::NULL => TpmuSymKeyBitsRead::Found(TpmuSymKeyBits::Null, at),
+            registry::NULL => TpmuSymKeyBitsRead::Found(Self::Null, at),
             _ => TpmuSymKeyBitsRead::No(Refusal::no_arm(at, wide(v))),
         }
     }
 
-    // Whether the payload is the arm that the selector chooses.
     pub fn matches_tag(self, tag: TpmAlgId) -> bool
         ensures { λ r. ⌜ r ≡ isArm (tpmuSymKeyBitsArm (tag .0)) (held (tpmuSymKeyBitsParts self)) ⌝ }
     {
         let v = tag.0;
         match self {
-            TpmuSymKeyBits::Aes(_) => v == registry::AES,
-            TpmuSymKeyBits::Sm4(_) => v == registry::SM4,
-            TpmuSymKeyBits::Camellia(_) => v == registry::CAMELLIA,
-            TpmuSymKeyBits::Xor(_) => v == registry::XOR,
-            TpmuSymKeyBits::Null => v == registry::NULL,
+            Self::Aes(_) => v == registry::AES,
+            Self::Sm4(_) => v == registry::SM4,
+            Self::Camellia(_) => v == registry::CAMELLIA,
+            Self::Xor(_) => v == registry::XOR,
+            Self::Null => v == registry::NULL,
         }
     }
 
@@ -149,11 +145,11 @@ impl TpmuSymKeyBits {
     {
         let v = w.due(tag.0, tag.sym_key_bits_arm(), self.matches_tag(tag));
         match self {
-            TpmuSymKeyBits::Aes(x) => v.uint16(x, out),
-            TpmuSymKeyBits::Sm4(x) => v.uint16(x, out),
-            TpmuSymKeyBits::Camellia(x) => v.uint16(x, out),
-            TpmuSymKeyBits::Xor(x) => v.algorithm(x, out),
-            TpmuSymKeyBits::Null => v,
+            Self::Aes(x) => v.uint16(x, out),
+            Self::Sm4(x) => v.uint16(x, out),
+            Self::Camellia(x) => v.uint16(x, out),
+            Self::Xor(x) => v.algorithm(x, out),
+            Self::Null => v,
         }
     }
 }
@@ -165,37 +161,36 @@ impl TpmuSymMode {
         let v = tag.0;
         match v {
             registry::AES => match TpmAlgId::unmarshal(s, at) {
-                TpmAlgIdRead::Found(x, e) => TpmuSymModeRead::Found(TpmuSymMode::Aes(x), e),
+                TpmAlgIdRead::Found(x, e) => TpmuSymModeRead::Found(Self::Aes(x), e),
                 TpmAlgIdRead::No(f) => TpmuSymModeRead::No(f),
             },
             registry::SM4 => match TpmAlgId::unmarshal(s, at) {
-                TpmAlgIdRead::Found(x, e) => TpmuSymModeRead::Found(TpmuSymMode::Sm4(x), e),
+                TpmAlgIdRead::Found(x, e) => TpmuSymModeRead::Found(Self::Sm4(x), e),
                 TpmAlgIdRead::No(f) => TpmuSymModeRead::No(f),
             },
             registry::CAMELLIA => match TpmAlgId::unmarshal(s, at) {
-                TpmAlgIdRead::Found(x, e) => TpmuSymModeRead::Found(TpmuSymMode::Camellia(x), e),
+                TpmAlgIdRead::Found(x, e) => TpmuSymModeRead::Found(Self::Camellia(x), e),
                 TpmAlgIdRead::No(f) => TpmuSymModeRead::No(f),
             },
             registry::XOR => match TpmAlgId::unmarshal(s, at) {
-                TpmAlgIdRead::Found(x, e) => TpmuSymModeRead::Found(TpmuSymMode::Xor(x), e),
+                TpmAlgIdRead::Found(x, e) => TpmuSymModeRead::Found(Self::Xor(x), e),
                 TpmAlgIdRead::No(f) => TpmuSymModeRead::No(f),
             },
-            registry::NULL => TpmuSymModeRead::Found(TpmuSymMode::Null, at),
+            registry::NULL => TpmuSymModeRead::Found(Self::Null, at),
             _ => TpmuSymModeRead::No(Refusal::no_arm(at, wide(v))),
         }
     }
 
-    // Whether the payload is the arm that the selector chooses.
     pub fn matches_tag(self, tag: TpmAlgId) -> bool
         ensures { λ r. ⌜ r ≡ isArm (tpmuSymModeArm (tag .0)) (held (tpmuSymModeParts self)) ⌝ }
     {
         let v = tag.0;
         match self {
-            TpmuSymMode::Aes(_) => v == registry::AES,
-            TpmuSymMode::Sm4(_) => v == registry::SM4,
-            TpmuSymMode::Camellia(_) => v == registry::CAMELLIA,
-            TpmuSymMode::Xor(_) => v == registry::XOR,
-            TpmuSymMode::Null => v == registry::NULL,
+            Self::Aes(_) => v == registry::AES,
+            Self::Sm4(_) => v == registry::SM4,
+            Self::Camellia(_) => v == registry::CAMELLIA,
+            Self::Xor(_) => v == registry::XOR,
+            Self::Null => v == registry::NULL,
         }
     }
 
@@ -204,11 +199,11 @@ impl TpmuSymMode {
     {
         let v = w.due(tag.0, tag.sym_mode_arm(), self.matches_tag(tag));
         match self {
-            TpmuSymMode::Aes(x) => v.algorithm(x, out),
-            TpmuSymMode::Sm4(x) => v.algorithm(x, out),
-            TpmuSymMode::Camellia(x) => v.algorithm(x, out),
-            TpmuSymMode::Xor(x) => v.algorithm(x, out),
-            TpmuSymMode::Null => v,
+            Self::Aes(x) => v.algorithm(x, out),
+            Self::Sm4(x) => v.algorithm(x, out),
+            Self::Camellia(x) => v.algorithm(x, out),
+            Self::Xor(x) => v.algorithm(x, out),
+            Self::Null => v,
         }
     }
 }

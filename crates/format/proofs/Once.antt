@@ -18,14 +18,14 @@ use Rattle.format.specs.declared.codes.TpmStRead.{TpmStRead}
 use Rattle.format.specs.declared.codes.DigestLen.{DigestLen}
 use Rattle.format.specs.Answers.{uint8Answer, uint16Answer, uint32Answer, tpmAlgIdAnswer, tpmEccCurveAnswer, tpmStAnswer, digestChoice}
 
-pub alg-once : Once (λ (a : TpmAlgId). num (a .0) ∷ [])
-alg-once = fields (λ a. a .0) (λ n. record { 0 = n }) (λ a. refl) number-once
+pub tpm-alg-id-once : Once (λ (a : TpmAlgId). num (a .0) ∷ [])
+tpm-alg-id-once = fields (λ a. a .0) (λ n. record { 0 = n }) (λ a. refl) number-once
 
-pub curve-once : Once (λ (c : TpmEccCurve). num (c .0) ∷ [])
-curve-once = fields (λ c. c .0) (λ n. record { 0 = n }) (λ c. refl) number-once
+pub tpm-ecc-curve-once : Once (λ (c : TpmEccCurve). num (c .0) ∷ [])
+tpm-ecc-curve-once = fields (λ c. c .0) (λ n. record { 0 = n }) (λ c. refl) number-once
 
-pub attestation-once : Once (λ (t : TpmSt). num (t .0) ∷ [])
-attestation-once = fields (λ t. t .0) (λ n. record { 0 = n }) (λ t. refl) number-once
+pub tpm-st-once : Once (λ (t : TpmSt). num (t .0) ∷ [])
+tpm-st-once = fields (λ t. t .0) (λ n. record { 0 = n }) (λ t. refl) number-once
 
 pub uint8-answer-once : Injective uint8Answer
 uint8-answer-once = answers number-once Uint8Read.Found Uint8Read.No uint8Answer (λ back. elim [ Uint8Read.Found n e ↦ back n e | Uint8Read.No f ↦ refl ])
@@ -36,14 +36,14 @@ uint16-answer-once = answers number-once Uint16Read.Found Uint16Read.No uint16An
 pub uint32-answer-once : Injective uint32Answer
 uint32-answer-once = answers number-once Uint32Read.Found Uint32Read.No uint32Answer (λ back. elim [ Uint32Read.Found n e ↦ back n e | Uint32Read.No f ↦ refl ])
 
-pub alg-answer-once : Injective tpmAlgIdAnswer
-alg-answer-once = answers alg-once TpmAlgIdRead.Found TpmAlgIdRead.No tpmAlgIdAnswer (λ back. elim [ TpmAlgIdRead.Found a e ↦ back a e | TpmAlgIdRead.No f ↦ refl ])
+pub tpm-alg-id-answer-once : Injective tpmAlgIdAnswer
+tpm-alg-id-answer-once = answers tpm-alg-id-once TpmAlgIdRead.Found TpmAlgIdRead.No tpmAlgIdAnswer (λ back. elim [ TpmAlgIdRead.Found a e ↦ back a e | TpmAlgIdRead.No f ↦ refl ])
 
-pub curve-answer-once : Injective tpmEccCurveAnswer
-curve-answer-once = answers curve-once TpmEccCurveRead.Found TpmEccCurveRead.No tpmEccCurveAnswer (λ back. elim [ TpmEccCurveRead.Found c e ↦ back c e | TpmEccCurveRead.No f ↦ refl ])
+pub tpm-ecc-curve-answer-once : Injective tpmEccCurveAnswer
+tpm-ecc-curve-answer-once = answers tpm-ecc-curve-once TpmEccCurveRead.Found TpmEccCurveRead.No tpmEccCurveAnswer (λ back. elim [ TpmEccCurveRead.Found c e ↦ back c e | TpmEccCurveRead.No f ↦ refl ])
 
-pub attestation-answer-once : Injective tpmStAnswer
-attestation-answer-once = answers attestation-once TpmStRead.Found TpmStRead.No tpmStAnswer (λ back. elim [ TpmStRead.Found t e ↦ back t e | TpmStRead.No f ↦ refl ])
+pub tpm-st-answer-once : Injective tpmStAnswer
+tpm-st-answer-once = answers tpm-st-once TpmStRead.Found TpmStRead.No tpmStAnswer (λ back. elim [ TpmStRead.Found t e ↦ back t e | TpmStRead.No f ↦ refl ])
 
 pub digest-choice-once : Injective digestChoice
 digest-choice-once = undone digestChoice

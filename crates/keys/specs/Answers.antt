@@ -2,10 +2,8 @@
 use Rattle.wire.specs.Reading.{Ans, refused, Parsed, parsed}
 use Rattle.keys.specs.declared.tpms.TpmsEccPointRead.{TpmsEccPointRead}
 use Rattle.keys.specs.declared.tpmu.TpmuPublicIdRead.{TpmuPublicIdRead}
-use Rattle.keys.specs.declared.tpmu.TpmuSensitiveCompositeRead.{TpmuSensitiveCompositeRead}
 use Rattle.keys.specs.declared.tpmt.TpmtPublicRead.{TpmtPublicRead}
-use Rattle.keys.specs.declared.tpmt.TpmtSensitiveRead.{TpmtSensitiveRead}
-use Rattle.keys.specs.Parts.{tpmsEccPointParts, tpmuPublicIdParts, tpmuSensitiveCompositeParts, tpmtPublicParts, tpmtSensitiveParts}
+use Rattle.keys.specs.Parts.{tpmsEccPointParts, tpmuPublicIdParts, tpmtPublicParts}
 
 abbrev pub tpmsEccPointAnswer : TpmsEccPointRead → Ans Parsed
 tpmsEccPointAnswer (TpmsEccPointRead.Found x e) = parsed (tpmsEccPointParts x) e
@@ -15,14 +13,6 @@ abbrev pub tpmuPublicIdAnswer : TpmuPublicIdRead → Ans Parsed
 tpmuPublicIdAnswer (TpmuPublicIdRead.Found x e) = parsed (tpmuPublicIdParts x) e
 tpmuPublicIdAnswer (TpmuPublicIdRead.No f) = refused f
 
-abbrev pub tpmuSensitiveCompositeAnswer : TpmuSensitiveCompositeRead → Ans Parsed
-tpmuSensitiveCompositeAnswer (TpmuSensitiveCompositeRead.Found x e) = parsed (tpmuSensitiveCompositeParts x) e
-tpmuSensitiveCompositeAnswer (TpmuSensitiveCompositeRead.No f) = refused f
-
 abbrev pub tpmtPublicAnswer : TpmtPublicRead → Ans Parsed
 tpmtPublicAnswer (TpmtPublicRead.Found x e) = parsed (tpmtPublicParts x) e
 tpmtPublicAnswer (TpmtPublicRead.No f) = refused f
-
-abbrev pub tpmtSensitiveAnswer : TpmtSensitiveRead → Ans Parsed
-tpmtSensitiveAnswer (TpmtSensitiveRead.Found x e) = parsed (tpmtSensitiveParts x) e
-tpmtSensitiveAnswer (TpmtSensitiveRead.No f) = refused f

@@ -44,15 +44,13 @@ impl TpmsEccPoint {
             }
             SpanRead::No(f) => return TpmsEccPointRead::No(f),
         };
-        TpmsEccPointRead::Found(TpmsEccPoint { x: x, y: y }, end)
+        TpmsEccPointRead::Found(Self { x, y }, end)
     }
 
     pub fn walk(self, w: Walk, src: &[u8], out: &mut [u8]) -> Walk
         ensures { λ r. ⌜ Walks 2 tpmsEccPoint (tpmsEccPointParts self) [] (now (src .entry)) (here w (now (out .entry))) (here r (now (out .exit))) ⌝ }
     {
-        let x = self.x;
-        let y = self.y;
-        w.buffer(limits::MAX_ECC_KEY_BYTES, x, src, out)
-            .buffer(limits::MAX_ECC_KEY_BYTES, y, src, out)
+        w.buffer(limits::MAX_ECC_KEY_BYTES, self.x, src, out)
+            .buffer(limits::MAX_ECC_KEY_BYTES, self.y, src, out)
     }
 }

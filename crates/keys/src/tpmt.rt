@@ -1,8 +1,6 @@
-// Kinds 11 and 12: public and sensitive areas. Each has the calls that a kind has (ciphers, tpmt.rt).
+// Kind 11: the public area. It has the calls that a kind has (ciphers, tpmt.rt).
 use crate::tpmu::TpmuPublicId;
 use crate::tpmu::TpmuPublicIdRead;
-use crate::tpmu::TpmuSensitiveComposite;
-use crate::tpmu::TpmuSensitiveCompositeRead;
 use format::codes::TpmAlgId;
 use format::codes::TpmAlgIdRead;
 use format::limits;
@@ -27,11 +25,11 @@ ghost use Rattle.wire.specs.Layout.{_then_};
 ghost use Rattle.wire.specs.Faults.{noField};
 ghost use Rattle.wire.specs.Reading.{num, also, read, readWhole, refused};
 ghost use Rattle.wire.specs.Fields.{partOf, sizeOf, fieldOf};
-ghost use Rattle.format.specs.Kinds.{tpmtPublic, tpmtSensitive, tpmuPublicParms, tpmuPublicId};
+ghost use Rattle.format.specs.Kinds.{tpmtPublic, tpmuPublicParms, tpmuPublicId};
 ghost use Rattle.steps.specs.Walks.{here, Walks};
 ghost use Rattle.steps.specs.Writes.{Writes};
-ghost use Rattle.keys.specs.Answers.{tpmtPublicAnswer, tpmtSensitiveAnswer};
-ghost use Rattle.keys.specs.Parts.{tpmtPublicParts, tpmtSensitiveParts};
+ghost use Rattle.keys.specs.Answers.{tpmtPublicAnswer};
+ghost use Rattle.keys.specs.Parts.{tpmtPublicParts};
 
 // The attributes of an object, as they stand.
 pub struct TpmaObject(pub u32);
@@ -45,20 +43,8 @@ pub struct TpmtPublic {
     pub unique: TpmuPublicId,
 }
 
-pub struct TpmtSensitive {
-    pub sensitive_type: TpmAlgId,
-    pub auth_value: Span,
-    pub seed_value: Span,
-    pub sensitive: TpmuSensitiveComposite,
-}
-
 pub enum TpmtPublicRead {
     Found(TpmtPublic, usize),
-    No(Refusal),
-}
-
-pub enum TpmtSensitiveRead {
-    Found(TpmtSensitive, usize),
     No(Refusal),
 }
 
@@ -96,7 +82,7 @@ impl TpmtPublic {
             }
             SpanRead::No(f) => return TpmtPublicRead::No(f),
         };
-        TpmtPublic::arms(
+        Self::arms(
             object_type,
             name_alg,
             TpmaObject(attributes),
@@ -133,13 +119,13 @@ impl TpmtPublic {
             TpmuPublicIdRead::No(f) => return TpmtPublicRead::No(f),
         };
         TpmtPublicRead::Found(
-            TpmtPublic {
+            Self {
                 object_type: object,
                 name_alg: naming,
                 object_attributes: attributes,
                 auth_policy: policy,
-                parameters: parameters,
-                unique: unique,
+                parameters,
+                unique,
             },
             end,
         )
@@ -148,7 +134,7 @@ impl TpmtPublic {
     pub fn whole(s: &[u8], at: usize) -> TpmtPublicRead
         ensures { λ r. ⌜ tpmtPublicAnswer r ≡ readWhole tpmtPublic (now (s .entry)) at ⌝ }
     {
-        match TpmtPublic::unmarshal(s, at) {
+        match Self::unmarshal(s, at) {
             TpmtPublicRead::Found(x, e) => match nothing_behind(s, e) {
                 Measure::Size(_) => TpmtPublicRead::Found(x, e),
                 Measure::No(f) => TpmtPublicRead::No(f),
@@ -160,18 +146,14 @@ impl TpmtPublic {
     pub fn walk(self, w: Walk, src: &[u8], out: &mut [u8]) -> Walk
         ensures { λ r. ⌜ Walks 20 tpmtPublic (tpmtPublicParts self) [] (now (src .entry)) (here w (now (out .entry))) (here r (now (out .exit))) ⌝ }
     {
-        let object_type = self.object_type;
-        let name_alg = self.name_alg;
-        let object_attributes = self.object_attributes;
-        let auth_policy = self.auth_policy;
         let parameters = self.parameters;
         let unique = self.unique;
-        let v = w.algorithm(object_type, out)
-            .algorithm(name_alg, out)
-            .uint32(object_attributes.0, out)
-            .buffer(limits::MAX_DIGEST_SIZE, auth_policy, src, out);
-        let u = parameters.walk_tagged(object_type, v, src, out);
-        unique.walk_tagged(object_type, u, src, out)
+        let v = w.algorithm(self.object_type, out)
+            .algorithm(self.name_alg, out)
+            .uint32(self.object_attributes.0, out)
+            .buffer(limits::MAX_DIGEST_SIZE, self.auth_policy, src, out);
+        let u = parameters.walk_tagged(self.object_type, v, src, out);
+        unique.walk_tagged(self.object_type, u, src, out)
     }
 
     pub fn marshal(self, src: &[u8], out: &mut [u8]) -> Measure
@@ -184,120 +166,13 @@ impl TpmtPublic {
     pub fn field<'a>(self, s: &'a [u8], index: usize) -> &'a [u8]
         ensures { λ r. ⌜ now r ≡ partOf (fieldOf (tpmtPublicParts self) index (now (s .entry))) ⌝ }
     {
-        let mut none = [0u8; 1];
-        self.walk(seeking(index), s, &mut none).part(s)
+        self.walk(seeking(index), s, &mut []).part(s)
     }
 
     pub fn field_size(self, s: &[u8], index: usize) -> Measure
         ensures { λ r. ⌜ measureAnswer r ≡ sizeOf (fieldOf (tpmtPublicParts self) index (now (s .entry))) ⌝ }
     {
-        let mut none = [0u8; 1];
-        self.walk(seeking(index), s, &mut none).size(s, index)
-    }
-
-    // It has no list.
-    pub fn item<'a>(self, s: &'a [u8], index: usize) -> &'a [u8]
-        ensures { λ r. ⌜ now r ≡ [] ⌝ }
-    {
-        &s[0..0]
-    }
-
-    pub fn item_size(self, s: &[u8], index: usize) -> Measure
-        ensures { λ r. ⌜ measureAnswer r ≡ refused (noField index) ⌝ }
-    {
-        Measure::No(Refusal::no_field(index))
-    }
-}
-
-impl TpmtSensitive {
-    // Kind 12, TPMT_SENSITIVE, read.
-    pub fn unmarshal(s: &[u8], at: usize) -> TpmtSensitiveRead
-        ensures { λ r. ⌜ tpmtSensitiveAnswer r ≡ read tpmtSensitive (now (s .entry)) at ⌝ }
-    {
-        let mut end = at;
-        let sensitive_type = match TpmAlgId::unmarshal(s, end) {
-            TpmAlgIdRead::Found(v, e) => {
-                end = e;
-                v
-            }
-            TpmAlgIdRead::No(f) => return TpmtSensitiveRead::No(f),
-        };
-        let auth_value = match buffer(s, end, Width::Two, limits::MAX_DIGEST_SIZE) {
-            SpanRead::Found(v, e) => {
-                end = e;
-                v
-            }
-            SpanRead::No(f) => return TpmtSensitiveRead::No(f),
-        };
-        let seed_value = match buffer(s, end, Width::Two, limits::MAX_DIGEST_SIZE) {
-            SpanRead::Found(v, e) => {
-                end = e;
-                v
-            }
-            SpanRead::No(f) => return TpmtSensitiveRead::No(f),
-        };
-        let sensitive = match TpmuSensitiveComposite::unmarshal_tagged(sensitive_type, s, end) {
-            TpmuSensitiveCompositeRead::Found(v, e) => {
-                end = e;
-                v
-            }
-            TpmuSensitiveCompositeRead::No(f) => return TpmtSensitiveRead::No(f),
-        };
-        TpmtSensitiveRead::Found(
-            TpmtSensitive {
-                sensitive_type: sensitive_type,
-                auth_value: auth_value,
-                seed_value: seed_value,
-                sensitive: sensitive,
-            },
-            end,
-        )
-    }
-
-    pub fn whole(s: &[u8], at: usize) -> TpmtSensitiveRead
-        ensures { λ r. ⌜ tpmtSensitiveAnswer r ≡ readWhole tpmtSensitive (now (s .entry)) at ⌝ }
-    {
-        match TpmtSensitive::unmarshal(s, at) {
-            TpmtSensitiveRead::Found(x, e) => match nothing_behind(s, e) {
-                Measure::Size(_) => TpmtSensitiveRead::Found(x, e),
-                Measure::No(f) => TpmtSensitiveRead::No(f),
-            },
-            TpmtSensitiveRead::No(f) => TpmtSensitiveRead::No(f),
-        }
-    }
-
-    pub fn walk(self, w: Walk, src: &[u8], out: &mut [u8]) -> Walk
-        ensures { λ r. ⌜ Walks 5 tpmtSensitive (tpmtSensitiveParts self) [] (now (src .entry)) (here w (now (out .entry))) (here r (now (out .exit))) ⌝ }
-    {
-        let sensitive_type = self.sensitive_type;
-        let auth_value = self.auth_value;
-        let seed_value = self.seed_value;
-        let sensitive = self.sensitive;
-        let v = w.algorithm(sensitive_type, out)
-            .buffer(limits::MAX_DIGEST_SIZE, auth_value, src, out)
-            .buffer(limits::MAX_DIGEST_SIZE, seed_value, src, out);
-        sensitive.walk_tagged(sensitive_type, v, src, out)
-    }
-
-    pub fn marshal(self, src: &[u8], out: &mut [u8]) -> Measure
-        ensures { λ r. ⌜ Writes tpmtSensitive (tpmtSensitiveParts self) (now (src .entry)) (now (out .entry)) r (now (out .exit)) ⌝ }
-    {
-        let judged = self.walk(judging(0), src, out);
-        self.walk(judged.ready(out.len()), src, out).answer()
-    }
-
-    pub fn field<'a>(self, s: &'a [u8], index: usize) -> &'a [u8]
-        ensures { λ r. ⌜ now r ≡ partOf (fieldOf (tpmtSensitiveParts self) index (now (s .entry))) ⌝ }
-    {
-        let mut none = [0u8; 1];
-        self.walk(seeking(index), s, &mut none).part(s)
-    }
-
-    pub fn field_size(self, s: &[u8], index: usize) -> Measure
-        ensures { λ r. ⌜ measureAnswer r ≡ sizeOf (fieldOf (tpmtSensitiveParts self) index (now (s .entry))) ⌝ }
-    {
-        let mut none = [0u8; 1];
-        self.walk(seeking(index), s, &mut none).size(s, index)
+        self.walk(seeking(index), s, &mut []).size(s, index)
     }
 
     // It has no list.

@@ -80,14 +80,13 @@ impl TpmsKeyedhashParms {
             }
             TpmtKeyedhashSchemeRead::No(f) => return TpmsKeyedhashParmsRead::No(f),
         };
-        TpmsKeyedhashParmsRead::Found(TpmsKeyedhashParms { scheme: scheme }, end)
+        TpmsKeyedhashParmsRead::Found(Self { scheme }, end)
     }
 
     pub fn walk(self, w: Walk, src: &[u8], out: &mut [u8]) -> Walk
         ensures { λ r. ⌜ Walks 4 tpmtKeyedhashScheme (tpmsKeyedhashParmsParts self) [] (now (src .entry)) (here w (now (out .entry))) (here r (now (out .exit))) ⌝ }
     {
-        let scheme = self.scheme;
-        scheme.walk(w, src, out)
+        self.scheme.walk(w, src, out)
     }
 }
 
@@ -104,14 +103,13 @@ impl TpmsSymcipherParms {
             }
             TpmtSymDefRead::No(f) => return TpmsSymcipherParmsRead::No(f),
         };
-        TpmsSymcipherParmsRead::Found(TpmsSymcipherParms { sym: sym }, end)
+        TpmsSymcipherParmsRead::Found(Self { sym }, end)
     }
 
     pub fn walk(self, w: Walk, src: &[u8], out: &mut [u8]) -> Walk
         ensures { λ r. ⌜ Walks 5 tpmtSymDef (tpmsSymcipherParmsParts self) [] (now (src .entry)) (here w (now (out .entry))) (here r (now (out .exit))) ⌝ }
     {
-        let sym = self.sym;
-        sym.walk(w, src, out)
+        self.sym.walk(w, src, out)
     }
 }
 
@@ -150,11 +148,11 @@ impl TpmsRsaParms {
             Uint32Read::No(f) => return TpmsRsaParmsRead::No(f),
         };
         TpmsRsaParmsRead::Found(
-            TpmsRsaParms {
-                symmetric: symmetric,
-                scheme: scheme,
-                key_bits: key_bits,
-                exponent: exponent,
+            Self {
+                symmetric,
+                scheme,
+                key_bits,
+                exponent,
             },
             end,
         )
@@ -163,13 +161,9 @@ impl TpmsRsaParms {
     pub fn walk(self, w: Walk, src: &[u8], out: &mut [u8]) -> Walk
         ensures { λ r. ⌜ Walks 10 tpmsRsaParms (tpmsRsaParmsParts self) [] (now (src .entry)) (here w (now (out .entry))) (here r (now (out .exit))) ⌝ }
     {
-        let symmetric = self.symmetric;
-        let scheme = self.scheme;
-        let key_bits = self.key_bits;
-        let exponent = self.exponent;
-        let v = symmetric.walk(w, src, out);
-        let u = scheme.walk(v, src, out);
-        u.uint16(key_bits, out).uint32(exponent, out)
+        let v = self.symmetric.walk(w, src, out);
+        let u = self.scheme.walk(v, src, out);
+        u.uint16(self.key_bits, out).uint32(self.exponent, out)
     }
 }
 
@@ -208,11 +202,11 @@ impl TpmsEccParms {
             TpmtKdfSchemeRead::No(f) => return TpmsEccParmsRead::No(f),
         };
         TpmsEccParmsRead::Found(
-            TpmsEccParms {
-                symmetric: symmetric,
-                scheme: scheme,
-                curve_id: curve_id,
-                kdf: kdf,
+            Self {
+                symmetric,
+                scheme,
+                curve_id,
+                kdf,
             },
             end,
         )
@@ -221,12 +215,8 @@ impl TpmsEccParms {
     pub fn walk(self, w: Walk, src: &[u8], out: &mut [u8]) -> Walk
         ensures { λ r. ⌜ Walks 12 tpmsEccParms (tpmsEccParmsParts self) [] (now (src .entry)) (here w (now (out .entry))) (here r (now (out .exit))) ⌝ }
     {
-        let symmetric = self.symmetric;
-        let scheme = self.scheme;
-        let curve_id = self.curve_id;
-        let kdf = self.kdf;
-        let v = symmetric.walk(w, src, out);
-        let u = scheme.walk(v, src, out);
-        kdf.walk(u.curve(curve_id, out), src, out)
+        let v = self.symmetric.walk(w, src, out);
+        let u = self.scheme.walk(v, src, out);
+        self.kdf.walk(u.curve(self.curve_id, out), src, out)
     }
 }

@@ -52,9 +52,9 @@ impl TpmtPublicParms {
             TpmuPublicParmsRead::No(f) => return TpmtPublicParmsRead::No(f),
         };
         TpmtPublicParmsRead::Found(
-            TpmtPublicParms {
-                object_type: object_type,
-                parameters: parameters,
+            Self {
+                object_type,
+                parameters,
             },
             end,
         )
@@ -63,7 +63,7 @@ impl TpmtPublicParms {
     pub fn whole(s: &[u8], at: usize) -> TpmtPublicParmsRead
         ensures { λ r. ⌜ tpmtPublicParmsAnswer r ≡ readWhole tpmtPublicParms (now (s .entry)) at ⌝ }
     {
-        match TpmtPublicParms::unmarshal(s, at) {
+        match Self::unmarshal(s, at) {
             TpmtPublicParmsRead::Found(x, e) => match nothing_behind(s, e) {
                 Measure::Size(_) => TpmtPublicParmsRead::Found(x, e),
                 Measure::No(f) => TpmtPublicParmsRead::No(f),
@@ -75,9 +75,13 @@ impl TpmtPublicParms {
     pub fn walk(self, w: Walk, src: &[u8], out: &mut [u8]) -> Walk
         ensures { λ r. ⌜ Walks 14 tpmtPublicParms (tpmtPublicParmsParts self) [] (now (src .entry)) (here w (now (out .entry))) (here r (now (out .exit))) ⌝ }
     {
-        let object_type = self.object_type;
         let parameters = self.parameters;
-        parameters.walk_tagged(object_type, w.algorithm(object_type, out), src, out)
+        parameters.walk_tagged(
+            self.object_type,
+            w.algorithm(self.object_type, out),
+            src,
+            out,
+        )
     }
 
     pub fn marshal(self, src: &[u8], out: &mut [u8]) -> Measure
@@ -90,15 +94,13 @@ impl TpmtPublicParms {
     pub fn field<'a>(self, s: &'a [u8], index: usize) -> &'a [u8]
         ensures { λ r. ⌜ now r ≡ partOf (fieldOf (tpmtPublicParmsParts self) index (now (s .entry))) ⌝ }
     {
-        let mut none = [0u8; 1];
-        self.walk(seeking(index), s, &mut none).part(s)
+        self.walk(seeking(index), s, &mut []).part(s)
     }
 
     pub fn field_size(self, s: &[u8], index: usize) -> Measure
         ensures { λ r. ⌜ measureAnswer r ≡ sizeOf (fieldOf (tpmtPublicParmsParts self) index (now (s .entry))) ⌝ }
     {
-        let mut none = [0u8; 1];
-        self.walk(seeking(index), s, &mut none).size(s, index)
+        self.walk(seeking(index), s, &mut []).size(s, index)
     }
 
     // It has no list.

@@ -1,4 +1,4 @@
-// The union of parameters, by the key's type.
+// The union of parameters, by the key's type. It has the calls that a union has (ciphers, tpmu.rt).
 use crate::tpms::TpmsEccParms;
 use crate::tpms::TpmsEccParmsRead;
 use crate::tpms::TpmsKeyedhashParms;
@@ -42,48 +42,41 @@ impl TpmuPublicParms {
         match v {
             registry::KEYED_HASH => match TpmsKeyedhashParms::unmarshal(s, at) {
                 TpmsKeyedhashParmsRead::Found(x, e) => TpmuPublicParmsRead::Found(
-                    TpmuPublicParms::KeyedHash(x),
+                    Self::KeyedHash(x),
                     e,
                 ),
                 TpmsKeyedhashParmsRead::No(f) => TpmuPublicParmsRead::No(f),
             },
             registry::SYM_CIPHER => match TpmsSymcipherParms::unmarshal(s, at) {
                 TpmsSymcipherParmsRead::Found(x, e) => TpmuPublicParmsRead::Found(
-                    TpmuPublicParms::SymCipher(x),
+                    Self::SymCipher(x),
                     e,
                 ),
                 TpmsSymcipherParmsRead::No(f) => TpmuPublicParmsRead::No(f),
             },
             registry::RSA => match TpmsRsaParms::unmarshal(s, at) {
-                TpmsRsaParmsRead::Found(x, e) => TpmuPublicParmsRead::Found(
-                    TpmuPublicParms::Rsa(x),
-                    e,
-                ),
+                TpmsRsaParmsRead::Found(x, e) => TpmuPublicParmsRead::Found(Self::Rsa(x), e),
                 TpmsRsaParmsRead::No(f) => TpmuPublicParmsRead::No(f),
             },
             registry::ECC => match TpmsEccParms::unmarshal(s, at) {
-                TpmsEccParmsRead::Found(x, e) => TpmuPublicParmsRead::Found(
-                    TpmuPublicParms::Ecc(x),
-                    e,
-                ),
+                TpmsEccParmsRead::Found(x, e) => TpmuPublicParmsRead::Found(Self::Ecc(x), e),
                 TpmsEccParmsRead::No(f) => TpmuPublicParmsRead::No(f),
             },
-            registry::NULL => TpmuPublicParmsRead::Found(TpmuPublicParms::Null, at),
+            registry::NULL => TpmuPublicParmsRead::Found(Self::Null, at),
             _ => TpmuPublicParmsRead::No(Refusal::no_arm(at, wide(v))),
         }
     }
 
-    // Whether the payload is the arm that the selector chooses.
     pub fn matches_tag(self, tag: TpmAlgId) -> bool
         ensures { λ r. ⌜ r ≡ isArm (tpmuPublicParmsArm (tag .0)) (held (tpmuPublicParmsParts self)) ⌝ }
     {
         let v = tag.0;
         match self {
-            TpmuPublicParms::KeyedHash(_) => v == registry::KEYED_HASH,
-            TpmuPublicParms::SymCipher(_) => v == registry::SYM_CIPHER,
-            TpmuPublicParms::Rsa(_) => v == registry::RSA,
-            TpmuPublicParms::Ecc(_) => v == registry::ECC,
-            TpmuPublicParms::Null => v == registry::NULL,
+            Self::KeyedHash(_) => v == registry::KEYED_HASH,
+            Self::SymCipher(_) => v == registry::SYM_CIPHER,
+            Self::Rsa(_) => v == registry::RSA,
+            Self::Ecc(_) => v == registry::ECC,
+            Self::Null => v == registry::NULL,
         }
     }
 
@@ -92,11 +85,11 @@ impl TpmuPublicParms {
     {
         let v = w.due(tag.0, tag.public_parms_arm(), self.matches_tag(tag));
         match self {
-            TpmuPublicParms::KeyedHash(x) => x.walk(v, src, out),
-            TpmuPublicParms::SymCipher(x) => x.walk(v, src, out),
-            TpmuPublicParms::Rsa(x) => x.walk(v, src, out),
-            TpmuPublicParms::Ecc(x) => x.walk(v, src, out),
-            TpmuPublicParms::Null => v,
+            Self::KeyedHash(x) => x.walk(v, src, out),
+            Self::SymCipher(x) => x.walk(v, src, out),
+            Self::Rsa(x) => x.walk(v, src, out),
+            Self::Ecc(x) => x.walk(v, src, out),
+            Self::Null => v,
         }
     }
 }

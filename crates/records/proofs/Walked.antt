@@ -25,6 +25,7 @@ use Rattle.steps.proofs.Search.{by-more}
 use Rattle.steps.proofs.Marshalled.{marshalled, refusing-answer}
 use Rattle.records.specs.Walked.{WalkOf, recordBytes, Copies}
 use Rattle.records.proofs.ByKind.{of-kind, no-kind-read}
+pub use borrow.Author.Needs.{needs}
 
 -- a reader refused, and so is the walk
 none-walked : (l : Layout) (y : Ans Parsed) (src : List ℕ) (f : Refusal) (w r : Walk) (out : List ℕ) → refused f ≡ y → r ≡ refusing f → WalkOf l src y (here w out) (here r out)

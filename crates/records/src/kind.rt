@@ -9,8 +9,6 @@ use ciphers::tpmt::TpmtSymDef;
 use ciphers::tpmt::TpmtSymDefRead;
 use keys::tpmt::TpmtPublic;
 use keys::tpmt::TpmtPublicRead;
-use keys::tpmt::TpmtSensitive;
-use keys::tpmt::TpmtSensitiveRead;
 use parameters::tpmt::TpmtPublicParms;
 use parameters::tpmt::TpmtPublicParmsRead;
 use schemes::tpmt::TpmtEccScheme;
@@ -25,6 +23,8 @@ use schemes::tpmt::TpmtRsaScheme;
 use schemes::tpmt::TpmtRsaSchemeRead;
 use schemes::tpmt::TpmtSigScheme;
 use schemes::tpmt::TpmtSigSchemeRead;
+use sensitive::tpmt::TpmtSensitive;
+use sensitive::tpmt::TpmtSensitiveRead;
 use signatures::tpmt::TpmtSignature;
 use signatures::tpmt::TpmtSignatureRead;
 use wire::fault::Refusal;
@@ -35,7 +35,7 @@ ghost use Rattle.wire.specs.Answers.{measureAnswer};
 ghost use Rattle.wire.specs.Reading.{read, endOf};
 ghost use Rattle.format.specs.Kinds.{tpmtHa, tpmtSymDef, tpmtKdfScheme, tpmtKeyedhashScheme, tpmtSigScheme, tpmtAsymScheme, tpmtPublicParms, tpmtSignature, tpmtPublic, tpmtSensitive, tpmsAttest, tpmlPcrSelection, readKind};
 
-fn ha_end(s: &[u8], at: usize) -> Measure
+fn tpmt_ha_end(s: &[u8], at: usize) -> Measure
     ensures { λ r. ⌜ measureAnswer r ≡ endOf (read tpmtHa (now (s .entry)) at) ⌝ }
 {
     match TpmtHa::unmarshal(s, at) {
@@ -44,7 +44,7 @@ fn ha_end(s: &[u8], at: usize) -> Measure
     }
 }
 
-fn sym_def_end(s: &[u8], at: usize) -> Measure
+fn tpmt_sym_def_end(s: &[u8], at: usize) -> Measure
     ensures { λ r. ⌜ measureAnswer r ≡ endOf (read tpmtSymDef (now (s .entry)) at) ⌝ }
 {
     match TpmtSymDef::unmarshal(s, at) {
@@ -53,7 +53,7 @@ fn sym_def_end(s: &[u8], at: usize) -> Measure
     }
 }
 
-fn kdf_scheme_end(s: &[u8], at: usize) -> Measure
+fn tpmt_kdf_scheme_end(s: &[u8], at: usize) -> Measure
     ensures { λ r. ⌜ measureAnswer r ≡ endOf (read tpmtKdfScheme (now (s .entry)) at) ⌝ }
 {
     match TpmtKdfScheme::unmarshal(s, at) {
@@ -62,7 +62,7 @@ fn kdf_scheme_end(s: &[u8], at: usize) -> Measure
     }
 }
 
-fn keyedhash_scheme_end(s: &[u8], at: usize) -> Measure
+fn tpmt_keyedhash_scheme_end(s: &[u8], at: usize) -> Measure
     ensures { λ r. ⌜ measureAnswer r ≡ endOf (read tpmtKeyedhashScheme (now (s .entry)) at) ⌝ }
 {
     match TpmtKeyedhashScheme::unmarshal(s, at) {
@@ -71,7 +71,7 @@ fn keyedhash_scheme_end(s: &[u8], at: usize) -> Measure
     }
 }
 
-fn sig_scheme_end(s: &[u8], at: usize) -> Measure
+fn tpmt_sig_scheme_end(s: &[u8], at: usize) -> Measure
     ensures { λ r. ⌜ measureAnswer r ≡ endOf (read tpmtSigScheme (now (s .entry)) at) ⌝ }
 {
     match TpmtSigScheme::unmarshal(s, at) {
@@ -80,7 +80,7 @@ fn sig_scheme_end(s: &[u8], at: usize) -> Measure
     }
 }
 
-fn rsa_scheme_end(s: &[u8], at: usize) -> Measure
+fn tpmt_rsa_scheme_end(s: &[u8], at: usize) -> Measure
     ensures { λ r. ⌜ measureAnswer r ≡ endOf (read tpmtAsymScheme (now (s .entry)) at) ⌝ }
 {
     match TpmtRsaScheme::unmarshal(s, at) {
@@ -89,7 +89,7 @@ fn rsa_scheme_end(s: &[u8], at: usize) -> Measure
     }
 }
 
-fn ecc_scheme_end(s: &[u8], at: usize) -> Measure
+fn tpmt_ecc_scheme_end(s: &[u8], at: usize) -> Measure
     ensures { λ r. ⌜ measureAnswer r ≡ endOf (read tpmtAsymScheme (now (s .entry)) at) ⌝ }
 {
     match TpmtEccScheme::unmarshal(s, at) {
@@ -98,7 +98,7 @@ fn ecc_scheme_end(s: &[u8], at: usize) -> Measure
     }
 }
 
-fn rsa_decrypt_end(s: &[u8], at: usize) -> Measure
+fn tpmt_rsa_decrypt_end(s: &[u8], at: usize) -> Measure
     ensures { λ r. ⌜ measureAnswer r ≡ endOf (read tpmtAsymScheme (now (s .entry)) at) ⌝ }
 {
     match TpmtRsaDecrypt::unmarshal(s, at) {
@@ -107,7 +107,7 @@ fn rsa_decrypt_end(s: &[u8], at: usize) -> Measure
     }
 }
 
-fn public_parms_end(s: &[u8], at: usize) -> Measure
+fn tpmt_public_parms_end(s: &[u8], at: usize) -> Measure
     ensures { λ r. ⌜ measureAnswer r ≡ endOf (read tpmtPublicParms (now (s .entry)) at) ⌝ }
 {
     match TpmtPublicParms::unmarshal(s, at) {
@@ -116,7 +116,7 @@ fn public_parms_end(s: &[u8], at: usize) -> Measure
     }
 }
 
-fn signature_end(s: &[u8], at: usize) -> Measure
+fn tpmt_signature_end(s: &[u8], at: usize) -> Measure
     ensures { λ r. ⌜ measureAnswer r ≡ endOf (read tpmtSignature (now (s .entry)) at) ⌝ }
 {
     match TpmtSignature::unmarshal(s, at) {
@@ -125,7 +125,7 @@ fn signature_end(s: &[u8], at: usize) -> Measure
     }
 }
 
-fn public_area_end(s: &[u8], at: usize) -> Measure
+fn tpmt_public_end(s: &[u8], at: usize) -> Measure
     ensures { λ r. ⌜ measureAnswer r ≡ endOf (read tpmtPublic (now (s .entry)) at) ⌝ }
 {
     match TpmtPublic::unmarshal(s, at) {
@@ -134,7 +134,7 @@ fn public_area_end(s: &[u8], at: usize) -> Measure
     }
 }
 
-fn sensitive_area_end(s: &[u8], at: usize) -> Measure
+fn tpmt_sensitive_end(s: &[u8], at: usize) -> Measure
     ensures { λ r. ⌜ measureAnswer r ≡ endOf (read tpmtSensitive (now (s .entry)) at) ⌝ }
 {
     match TpmtSensitive::unmarshal(s, at) {
@@ -143,7 +143,7 @@ fn sensitive_area_end(s: &[u8], at: usize) -> Measure
     }
 }
 
-fn attestation_end(s: &[u8], at: usize) -> Measure
+fn tpms_attest_end(s: &[u8], at: usize) -> Measure
     ensures { λ r. ⌜ measureAnswer r ≡ endOf (read tpmsAttest (now (s .entry)) at) ⌝ }
 {
     match TpmsAttest::unmarshal(s, at) {
@@ -152,7 +152,7 @@ fn attestation_end(s: &[u8], at: usize) -> Measure
     }
 }
 
-fn pcr_selections_end(s: &[u8], at: usize) -> Measure
+fn tpml_pcr_selection_end(s: &[u8], at: usize) -> Measure
     ensures { λ r. ⌜ measureAnswer r ≡ endOf (read tpmlPcrSelection (now (s .entry)) at) ⌝ }
 {
     match TpmlPcrSelection::unmarshal(s, at) {
@@ -166,20 +166,20 @@ pub fn record_end(kind: u8, s: &[u8], at: usize) -> Measure
     ensures { λ r. ⌜ measureAnswer r ≡ endOf (readKind kind (now (s .entry)) at) ⌝ }
 {
     match kind {
-        1 => ha_end(s, at),
-        2 => sym_def_end(s, at),
-        3 => kdf_scheme_end(s, at),
-        4 => keyedhash_scheme_end(s, at),
-        5 => sig_scheme_end(s, at),
-        6 => rsa_scheme_end(s, at),
-        7 => ecc_scheme_end(s, at),
-        8 => rsa_decrypt_end(s, at),
-        9 => public_parms_end(s, at),
-        10 => signature_end(s, at),
-        11 => public_area_end(s, at),
-        12 => sensitive_area_end(s, at),
-        13 => attestation_end(s, at),
-        14 => pcr_selections_end(s, at),
+        1 => tpmt_ha_end(s, at),
+        2 => tpmt_sym_def_end(s, at),
+        3 => tpmt_kdf_scheme_end(s, at),
+        4 => tpmt_keyedhash_scheme_end(s, at),
+        5 => tpmt_sig_scheme_end(s, at),
+        6 => tpmt_rsa_scheme_end(s, at),
+        7 => tpmt_ecc_scheme_end(s, at),
+        8 => tpmt_rsa_decrypt_end(s, at),
+        9 => tpmt_public_parms_end(s, at),
+        10 => tpmt_signature_end(s, at),
+        11 => tpmt_public_end(s, at),
+        12 => tpmt_sensitive_end(s, at),
+        13 => tpms_attest_end(s, at),
+        14 => tpml_pcr_selection_end(s, at),
         _ => Measure::No(Refusal::bad_kind(wide_byte(kind))),
     }
 }

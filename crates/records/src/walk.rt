@@ -9,8 +9,6 @@ use ciphers::tpmt::TpmtSymDef;
 use ciphers::tpmt::TpmtSymDefRead;
 use keys::tpmt::TpmtPublic;
 use keys::tpmt::TpmtPublicRead;
-use keys::tpmt::TpmtSensitive;
-use keys::tpmt::TpmtSensitiveRead;
 use parameters::tpmt::TpmtPublicParms;
 use parameters::tpmt::TpmtPublicParmsRead;
 use schemes::tpmt::TpmtEccScheme;
@@ -25,6 +23,8 @@ use schemes::tpmt::TpmtRsaScheme;
 use schemes::tpmt::TpmtRsaSchemeRead;
 use schemes::tpmt::TpmtSigScheme;
 use schemes::tpmt::TpmtSigSchemeRead;
+use sensitive::tpmt::TpmtSensitive;
+use sensitive::tpmt::TpmtSensitiveRead;
 use signatures::tpmt::TpmtSignature;
 use signatures::tpmt::TpmtSignatureRead;
 use steps::walk::Walk;
@@ -38,7 +38,7 @@ ghost use Rattle.format.specs.Kinds.{tpmtHa, tpmtSymDef, tpmtKdfScheme, tpmtKey
 ghost use Rattle.steps.specs.Walks.{here};
 ghost use Rattle.records.specs.Walked.{WalkOf, Copies};
 
-fn ha_walk(s: &[u8], w: Walk, out: &mut [u8]) -> Walk
+fn tpmt_ha_walk(s: &[u8], w: Walk, out: &mut [u8]) -> Walk
     ensures { λ r. ⌜ WalkOf tpmtHa (now (s .entry)) (read tpmtHa (now (s .entry)) 0) (here w (now (out .entry))) (here r (now (out .exit))) ⌝ }
 {
     match TpmtHa::unmarshal(s, 0) {
@@ -47,7 +47,7 @@ fn ha_walk(s: &[u8], w: Walk, out: &mut [u8]) -> Walk
     }
 }
 
-fn sym_def_walk(s: &[u8], w: Walk, out: &mut [u8]) -> Walk
+fn tpmt_sym_def_walk(s: &[u8], w: Walk, out: &mut [u8]) -> Walk
     ensures { λ r. ⌜ WalkOf tpmtSymDef (now (s .entry)) (read tpmtSymDef (now (s .entry)) 0) (here w (now (out .entry))) (here r (now (out .exit))) ⌝ }
 {
     match TpmtSymDef::unmarshal(s, 0) {
@@ -56,7 +56,7 @@ fn sym_def_walk(s: &[u8], w: Walk, out: &mut [u8]) -> Walk
     }
 }
 
-fn kdf_scheme_walk(s: &[u8], w: Walk, out: &mut [u8]) -> Walk
+fn tpmt_kdf_scheme_walk(s: &[u8], w: Walk, out: &mut [u8]) -> Walk
     ensures { λ r. ⌜ WalkOf tpmtKdfScheme (now (s .entry)) (read tpmtKdfScheme (now (s .entry)) 0) (here w (now (out .entry))) (here r (now (out .exit))) ⌝ }
 {
     match TpmtKdfScheme::unmarshal(s, 0) {
@@ -65,7 +65,7 @@ fn kdf_scheme_walk(s: &[u8], w: Walk, out: &mut [u8]) -> Walk
     }
 }
 
-fn keyedhash_scheme_walk(s: &[u8], w: Walk, out: &mut [u8]) -> Walk
+fn tpmt_keyedhash_scheme_walk(s: &[u8], w: Walk, out: &mut [u8]) -> Walk
     ensures { λ r. ⌜ WalkOf tpmtKeyedhashScheme (now (s .entry)) (read tpmtKeyedhashScheme (now (s .entry)) 0) (here w (now (out .entry))) (here r (now (out .exit))) ⌝ }
 {
     match TpmtKeyedhashScheme::unmarshal(s, 0) {
@@ -74,7 +74,7 @@ fn keyedhash_scheme_walk(s: &[u8], w: Walk, out: &mut [u8]) -> Walk
     }
 }
 
-fn sig_scheme_walk(s: &[u8], w: Walk, out: &mut [u8]) -> Walk
+fn tpmt_sig_scheme_walk(s: &[u8], w: Walk, out: &mut [u8]) -> Walk
     ensures { λ r. ⌜ WalkOf tpmtSigScheme (now (s .entry)) (read tpmtSigScheme (now (s .entry)) 0) (here w (now (out .entry))) (here r (now (out .exit))) ⌝ }
 {
     match TpmtSigScheme::unmarshal(s, 0) {
@@ -83,7 +83,7 @@ fn sig_scheme_walk(s: &[u8], w: Walk, out: &mut [u8]) -> Walk
     }
 }
 
-fn rsa_scheme_walk(s: &[u8], w: Walk, out: &mut [u8]) -> Walk
+fn tpmt_rsa_scheme_walk(s: &[u8], w: Walk, out: &mut [u8]) -> Walk
     ensures { λ r. ⌜ WalkOf tpmtAsymScheme (now (s .entry)) (read tpmtAsymScheme (now (s .entry)) 0) (here w (now (out .entry))) (here r (now (out .exit))) ⌝ }
 {
     match TpmtRsaScheme::unmarshal(s, 0) {
@@ -92,7 +92,7 @@ fn rsa_scheme_walk(s: &[u8], w: Walk, out: &mut [u8]) -> Walk
     }
 }
 
-fn ecc_scheme_walk(s: &[u8], w: Walk, out: &mut [u8]) -> Walk
+fn tpmt_ecc_scheme_walk(s: &[u8], w: Walk, out: &mut [u8]) -> Walk
     ensures { λ r. ⌜ WalkOf tpmtAsymScheme (now (s .entry)) (read tpmtAsymScheme (now (s .entry)) 0) (here w (now (out .entry))) (here r (now (out .exit))) ⌝ }
 {
     match TpmtEccScheme::unmarshal(s, 0) {
@@ -101,7 +101,7 @@ fn ecc_scheme_walk(s: &[u8], w: Walk, out: &mut [u8]) -> Walk
     }
 }
 
-fn rsa_decrypt_walk(s: &[u8], w: Walk, out: &mut [u8]) -> Walk
+fn tpmt_rsa_decrypt_walk(s: &[u8], w: Walk, out: &mut [u8]) -> Walk
     ensures { λ r. ⌜ WalkOf tpmtAsymScheme (now (s .entry)) (read tpmtAsymScheme (now (s .entry)) 0) (here w (now (out .entry))) (here r (now (out .exit))) ⌝ }
 {
     match TpmtRsaDecrypt::unmarshal(s, 0) {
@@ -110,7 +110,7 @@ fn rsa_decrypt_walk(s: &[u8], w: Walk, out: &mut [u8]) -> Walk
     }
 }
 
-fn public_parms_walk(s: &[u8], w: Walk, out: &mut [u8]) -> Walk
+fn tpmt_public_parms_walk(s: &[u8], w: Walk, out: &mut [u8]) -> Walk
     ensures { λ r. ⌜ WalkOf tpmtPublicParms (now (s .entry)) (read tpmtPublicParms (now (s .entry)) 0) (here w (now (out .entry))) (here r (now (out .exit))) ⌝ }
 {
     match TpmtPublicParms::unmarshal(s, 0) {
@@ -119,7 +119,7 @@ fn public_parms_walk(s: &[u8], w: Walk, out: &mut [u8]) -> Walk
     }
 }
 
-fn signature_walk(s: &[u8], w: Walk, out: &mut [u8]) -> Walk
+fn tpmt_signature_walk(s: &[u8], w: Walk, out: &mut [u8]) -> Walk
     ensures { λ r. ⌜ WalkOf tpmtSignature (now (s .entry)) (read tpmtSignature (now (s .entry)) 0) (here w (now (out .entry))) (here r (now (out .exit))) ⌝ }
 {
     match TpmtSignature::unmarshal(s, 0) {
@@ -128,7 +128,7 @@ fn signature_walk(s: &[u8], w: Walk, out: &mut [u8]) -> Walk
     }
 }
 
-fn public_area_walk(s: &[u8], w: Walk, out: &mut [u8]) -> Walk
+fn tpmt_public_walk(s: &[u8], w: Walk, out: &mut [u8]) -> Walk
     ensures { λ r. ⌜ WalkOf tpmtPublic (now (s .entry)) (read tpmtPublic (now (s .entry)) 0) (here w (now (out .entry))) (here r (now (out .exit))) ⌝ }
 {
     match TpmtPublic::unmarshal(s, 0) {
@@ -137,7 +137,7 @@ fn public_area_walk(s: &[u8], w: Walk, out: &mut [u8]) -> Walk
     }
 }
 
-fn sensitive_area_walk(s: &[u8], w: Walk, out: &mut [u8]) -> Walk
+fn tpmt_sensitive_walk(s: &[u8], w: Walk, out: &mut [u8]) -> Walk
     ensures { λ r. ⌜ WalkOf tpmtSensitive (now (s .entry)) (read tpmtSensitive (now (s .entry)) 0) (here w (now (out .entry))) (here r (now (out .exit))) ⌝ }
 {
     match TpmtSensitive::unmarshal(s, 0) {
@@ -146,7 +146,7 @@ fn sensitive_area_walk(s: &[u8], w: Walk, out: &mut [u8]) -> Walk
     }
 }
 
-fn attestation_walk(s: &[u8], w: Walk, out: &mut [u8]) -> Walk
+fn tpms_attest_walk(s: &[u8], w: Walk, out: &mut [u8]) -> Walk
     ensures { λ r. ⌜ WalkOf tpmsAttest (now (s .entry)) (read tpmsAttest (now (s .entry)) 0) (here w (now (out .entry))) (here r (now (out .exit))) ⌝ }
 {
     match TpmsAttest::unmarshal(s, 0) {
@@ -155,7 +155,7 @@ fn attestation_walk(s: &[u8], w: Walk, out: &mut [u8]) -> Walk
     }
 }
 
-fn pcr_selections_walk(s: &[u8], w: Walk, out: &mut [u8]) -> Walk
+fn tpml_pcr_selection_walk(s: &[u8], w: Walk, out: &mut [u8]) -> Walk
     ensures { λ r. ⌜ WalkOf tpmlPcrSelection (now (s .entry)) (read tpmlPcrSelection (now (s .entry)) 0) (here w (now (out .entry))) (here r (now (out .exit))) ⌝ }
 {
     match TpmlPcrSelection::unmarshal(s, 0) {
@@ -170,20 +170,20 @@ pub fn walk(kind: u8, s: &[u8], w: Walk, out: &mut [u8]) -> Walk
     ensures { λ r. ⌜ WalkOf (layoutOf kind) (now (s .entry)) (readKind kind (now (s .entry)) 0) (here w (now (out .entry))) (here r (now (out .exit))) ⌝ }
 {
     match kind {
-        1 => ha_walk(s, w, out),
-        2 => sym_def_walk(s, w, out),
-        3 => kdf_scheme_walk(s, w, out),
-        4 => keyedhash_scheme_walk(s, w, out),
-        5 => sig_scheme_walk(s, w, out),
-        6 => rsa_scheme_walk(s, w, out),
-        7 => ecc_scheme_walk(s, w, out),
-        8 => rsa_decrypt_walk(s, w, out),
-        9 => public_parms_walk(s, w, out),
-        10 => signature_walk(s, w, out),
-        11 => public_area_walk(s, w, out),
-        12 => sensitive_area_walk(s, w, out),
-        13 => attestation_walk(s, w, out),
-        14 => pcr_selections_walk(s, w, out),
+        1 => tpmt_ha_walk(s, w, out),
+        2 => tpmt_sym_def_walk(s, w, out),
+        3 => tpmt_kdf_scheme_walk(s, w, out),
+        4 => tpmt_keyedhash_scheme_walk(s, w, out),
+        5 => tpmt_sig_scheme_walk(s, w, out),
+        6 => tpmt_rsa_scheme_walk(s, w, out),
+        7 => tpmt_ecc_scheme_walk(s, w, out),
+        8 => tpmt_rsa_decrypt_walk(s, w, out),
+        9 => tpmt_public_parms_walk(s, w, out),
+        10 => tpmt_signature_walk(s, w, out),
+        11 => tpmt_public_walk(s, w, out),
+        12 => tpmt_sensitive_walk(s, w, out),
+        13 => tpms_attest_walk(s, w, out),
+        14 => tpml_pcr_selection_walk(s, w, out),
         _ => refusing(Refusal::bad_kind(wide_byte(kind))),
     }
 }

@@ -45,14 +45,13 @@ impl TpmsSchemeHash {
             }
             TpmAlgIdRead::No(f) => return TpmsSchemeHashRead::No(f),
         };
-        TpmsSchemeHashRead::Found(TpmsSchemeHash { hash_alg: hash_alg }, end)
+        TpmsSchemeHashRead::Found(Self { hash_alg }, end)
     }
 
     pub fn walk(self, w: Walk, src: &[u8], out: &mut [u8]) -> Walk
         ensures { λ r. ⌜ Walks 1 tpmsSchemeHash (tpmsSchemeHashParts self) [] (now (src .entry)) (here w (now (out .entry))) (here r (now (out .exit))) ⌝ }
     {
-        let hash_alg = self.hash_alg;
-        w.algorithm(hash_alg, out)
+        w.algorithm(self.hash_alg, out)
     }
 }
 
@@ -76,20 +75,12 @@ impl TpmsSchemeXor {
             }
             TpmAlgIdRead::No(f) => return TpmsSchemeXorRead::No(f),
         };
-        TpmsSchemeXorRead::Found(
-            TpmsSchemeXor {
-                hash_alg: hash_alg,
-                kdf: kdf,
-            },
-            end,
-        )
+        TpmsSchemeXorRead::Found(Self { hash_alg, kdf }, end)
     }
 
     pub fn walk(self, w: Walk, src: &[u8], out: &mut [u8]) -> Walk
         ensures { λ r. ⌜ Walks 2 tpmsSchemeXor (tpmsSchemeXorParts self) [] (now (src .entry)) (here w (now (out .entry))) (here r (now (out .exit))) ⌝ }
     {
-        let hash_alg = self.hash_alg;
-        let kdf = self.kdf;
-        w.algorithm(hash_alg, out).algorithm(kdf, out)
+        w.algorithm(self.hash_alg, out).algorithm(self.kdf, out)
     }
 }

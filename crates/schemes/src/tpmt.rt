@@ -107,19 +107,13 @@ impl TpmtKdfScheme {
             }
             TpmuKdfSchemeRead::No(f) => return TpmtKdfSchemeRead::No(f),
         };
-        TpmtKdfSchemeRead::Found(
-            TpmtKdfScheme {
-                scheme: scheme,
-                details: details,
-            },
-            end,
-        )
+        TpmtKdfSchemeRead::Found(Self { scheme, details }, end)
     }
 
     pub fn whole(s: &[u8], at: usize) -> TpmtKdfSchemeRead
         ensures { λ r. ⌜ tpmtKdfSchemeAnswer r ≡ readWhole tpmtKdfScheme (now (s .entry)) at ⌝ }
     {
-        match TpmtKdfScheme::unmarshal(s, at) {
+        match Self::unmarshal(s, at) {
             TpmtKdfSchemeRead::Found(x, e) => match nothing_behind(s, e) {
                 Measure::Size(_) => TpmtKdfSchemeRead::Found(x, e),
                 Measure::No(f) => TpmtKdfSchemeRead::No(f),
@@ -131,9 +125,8 @@ impl TpmtKdfScheme {
     pub fn walk(self, w: Walk, src: &[u8], out: &mut [u8]) -> Walk
         ensures { λ r. ⌜ Walks 3 tpmtKdfScheme (tpmtKdfSchemeParts self) [] (now (src .entry)) (here w (now (out .entry))) (here r (now (out .exit))) ⌝ }
     {
-        let scheme = self.scheme;
         let details = self.details;
-        details.walk_tagged(scheme, w.algorithm(scheme, out), src, out)
+        details.walk_tagged(self.scheme, w.algorithm(self.scheme, out), src, out)
     }
 
     pub fn marshal(self, src: &[u8], out: &mut [u8]) -> Measure
@@ -146,15 +139,13 @@ impl TpmtKdfScheme {
     pub fn field<'a>(self, s: &'a [u8], index: usize) -> &'a [u8]
         ensures { λ r. ⌜ now r ≡ partOf (fieldOf (tpmtKdfSchemeParts self) index (now (s .entry))) ⌝ }
     {
-        let mut none = [0u8; 1];
-        self.walk(seeking(index), s, &mut none).part(s)
+        self.walk(seeking(index), s, &mut []).part(s)
     }
 
     pub fn field_size(self, s: &[u8], index: usize) -> Measure
         ensures { λ r. ⌜ measureAnswer r ≡ sizeOf (fieldOf (tpmtKdfSchemeParts self) index (now (s .entry))) ⌝ }
     {
-        let mut none = [0u8; 1];
-        self.walk(seeking(index), s, &mut none).size(s, index)
+        self.walk(seeking(index), s, &mut []).size(s, index)
     }
 
     // It has no list.
@@ -191,19 +182,13 @@ impl TpmtKeyedhashScheme {
             }
             TpmuKeyedhashSchemeRead::No(f) => return TpmtKeyedhashSchemeRead::No(f),
         };
-        TpmtKeyedhashSchemeRead::Found(
-            TpmtKeyedhashScheme {
-                scheme: scheme,
-                details: details,
-            },
-            end,
-        )
+        TpmtKeyedhashSchemeRead::Found(Self { scheme, details }, end)
     }
 
     pub fn whole(s: &[u8], at: usize) -> TpmtKeyedhashSchemeRead
         ensures { λ r. ⌜ tpmtKeyedhashSchemeAnswer r ≡ readWhole tpmtKeyedhashScheme (now (s .entry)) at ⌝ }
     {
-        match TpmtKeyedhashScheme::unmarshal(s, at) {
+        match Self::unmarshal(s, at) {
             TpmtKeyedhashSchemeRead::Found(x, e) => match nothing_behind(s, e) {
                 Measure::Size(_) => TpmtKeyedhashSchemeRead::Found(x, e),
                 Measure::No(f) => TpmtKeyedhashSchemeRead::No(f),
@@ -215,9 +200,8 @@ impl TpmtKeyedhashScheme {
     pub fn walk(self, w: Walk, src: &[u8], out: &mut [u8]) -> Walk
         ensures { λ r. ⌜ Walks 4 tpmtKeyedhashScheme (tpmtKeyedhashSchemeParts self) [] (now (src .entry)) (here w (now (out .entry))) (here r (now (out .exit))) ⌝ }
     {
-        let scheme = self.scheme;
         let details = self.details;
-        details.walk_tagged(scheme, w.algorithm(scheme, out), src, out)
+        details.walk_tagged(self.scheme, w.algorithm(self.scheme, out), src, out)
     }
 
     pub fn marshal(self, src: &[u8], out: &mut [u8]) -> Measure
@@ -230,15 +214,13 @@ impl TpmtKeyedhashScheme {
     pub fn field<'a>(self, s: &'a [u8], index: usize) -> &'a [u8]
         ensures { λ r. ⌜ now r ≡ partOf (fieldOf (tpmtKeyedhashSchemeParts self) index (now (s .entry))) ⌝ }
     {
-        let mut none = [0u8; 1];
-        self.walk(seeking(index), s, &mut none).part(s)
+        self.walk(seeking(index), s, &mut []).part(s)
     }
 
     pub fn field_size(self, s: &[u8], index: usize) -> Measure
         ensures { λ r. ⌜ measureAnswer r ≡ sizeOf (fieldOf (tpmtKeyedhashSchemeParts self) index (now (s .entry))) ⌝ }
     {
-        let mut none = [0u8; 1];
-        self.walk(seeking(index), s, &mut none).size(s, index)
+        self.walk(seeking(index), s, &mut []).size(s, index)
     }
 
     // It has no list.
@@ -275,19 +257,13 @@ impl TpmtSigScheme {
             }
             TpmuSigSchemeRead::No(f) => return TpmtSigSchemeRead::No(f),
         };
-        TpmtSigSchemeRead::Found(
-            TpmtSigScheme {
-                scheme: scheme,
-                details: details,
-            },
-            end,
-        )
+        TpmtSigSchemeRead::Found(Self { scheme, details }, end)
     }
 
     pub fn whole(s: &[u8], at: usize) -> TpmtSigSchemeRead
         ensures { λ r. ⌜ tpmtSigSchemeAnswer r ≡ readWhole tpmtSigScheme (now (s .entry)) at ⌝ }
     {
-        match TpmtSigScheme::unmarshal(s, at) {
+        match Self::unmarshal(s, at) {
             TpmtSigSchemeRead::Found(x, e) => match nothing_behind(s, e) {
                 Measure::Size(_) => TpmtSigSchemeRead::Found(x, e),
                 Measure::No(f) => TpmtSigSchemeRead::No(f),
@@ -299,9 +275,8 @@ impl TpmtSigScheme {
     pub fn walk(self, w: Walk, src: &[u8], out: &mut [u8]) -> Walk
         ensures { λ r. ⌜ Walks 3 tpmtSigScheme (tpmtSigSchemeParts self) [] (now (src .entry)) (here w (now (out .entry))) (here r (now (out .exit))) ⌝ }
     {
-        let scheme = self.scheme;
         let details = self.details;
-        details.walk_tagged(scheme, w.algorithm(scheme, out), src, out)
+        details.walk_tagged(self.scheme, w.algorithm(self.scheme, out), src, out)
     }
 
     pub fn marshal(self, src: &[u8], out: &mut [u8]) -> Measure
@@ -314,15 +289,13 @@ impl TpmtSigScheme {
     pub fn field<'a>(self, s: &'a [u8], index: usize) -> &'a [u8]
         ensures { λ r. ⌜ now r ≡ partOf (fieldOf (tpmtSigSchemeParts self) index (now (s .entry))) ⌝ }
     {
-        let mut none = [0u8; 1];
-        self.walk(seeking(index), s, &mut none).part(s)
+        self.walk(seeking(index), s, &mut []).part(s)
     }
 
     pub fn field_size(self, s: &[u8], index: usize) -> Measure
         ensures { λ r. ⌜ measureAnswer r ≡ sizeOf (fieldOf (tpmtSigSchemeParts self) index (now (s .entry))) ⌝ }
     {
-        let mut none = [0u8; 1];
-        self.walk(seeking(index), s, &mut none).size(s, index)
+        self.walk(seeking(index), s, &mut []).size(s, index)
     }
 
     // It has no list.
@@ -359,19 +332,13 @@ impl TpmtRsaScheme {
             }
             TpmuAsymSchemeRead::No(f) => return TpmtRsaSchemeRead::No(f),
         };
-        TpmtRsaSchemeRead::Found(
-            TpmtRsaScheme {
-                scheme: scheme,
-                details: details,
-            },
-            end,
-        )
+        TpmtRsaSchemeRead::Found(Self { scheme, details }, end)
     }
 
     pub fn whole(s: &[u8], at: usize) -> TpmtRsaSchemeRead
         ensures { λ r. ⌜ tpmtRsaSchemeAnswer r ≡ readWhole tpmtAsymScheme (now (s .entry)) at ⌝ }
     {
-        match TpmtRsaScheme::unmarshal(s, at) {
+        match Self::unmarshal(s, at) {
             TpmtRsaSchemeRead::Found(x, e) => match nothing_behind(s, e) {
                 Measure::Size(_) => TpmtRsaSchemeRead::Found(x, e),
                 Measure::No(f) => TpmtRsaSchemeRead::No(f),
@@ -383,9 +350,8 @@ impl TpmtRsaScheme {
     pub fn walk(self, w: Walk, src: &[u8], out: &mut [u8]) -> Walk
         ensures { λ r. ⌜ Walks 3 tpmtAsymScheme (tpmtRsaSchemeParts self) [] (now (src .entry)) (here w (now (out .entry))) (here r (now (out .exit))) ⌝ }
     {
-        let scheme = self.scheme;
         let details = self.details;
-        details.walk_tagged(scheme, w.algorithm(scheme, out), src, out)
+        details.walk_tagged(self.scheme, w.algorithm(self.scheme, out), src, out)
     }
 
     pub fn marshal(self, src: &[u8], out: &mut [u8]) -> Measure
@@ -398,15 +364,13 @@ impl TpmtRsaScheme {
     pub fn field<'a>(self, s: &'a [u8], index: usize) -> &'a [u8]
         ensures { λ r. ⌜ now r ≡ partOf (fieldOf (tpmtRsaSchemeParts self) index (now (s .entry))) ⌝ }
     {
-        let mut none = [0u8; 1];
-        self.walk(seeking(index), s, &mut none).part(s)
+        self.walk(seeking(index), s, &mut []).part(s)
     }
 
     pub fn field_size(self, s: &[u8], index: usize) -> Measure
         ensures { λ r. ⌜ measureAnswer r ≡ sizeOf (fieldOf (tpmtRsaSchemeParts self) index (now (s .entry))) ⌝ }
     {
-        let mut none = [0u8; 1];
-        self.walk(seeking(index), s, &mut none).size(s, index)
+        self.walk(seeking(index), s, &mut []).size(s, index)
     }
 
     // It has no list.
@@ -443,19 +407,13 @@ impl TpmtEccScheme {
             }
             TpmuAsymSchemeRead::No(f) => return TpmtEccSchemeRead::No(f),
         };
-        TpmtEccSchemeRead::Found(
-            TpmtEccScheme {
-                scheme: scheme,
-                details: details,
-            },
-            end,
-        )
+        TpmtEccSchemeRead::Found(Self { scheme, details }, end)
     }
 
     pub fn whole(s: &[u8], at: usize) -> TpmtEccSchemeRead
         ensures { λ r. ⌜ tpmtEccSchemeAnswer r ≡ readWhole tpmtAsymScheme (now (s .entry)) at ⌝ }
     {
-        match TpmtEccScheme::unmarshal(s, at) {
+        match Self::unmarshal(s, at) {
             TpmtEccSchemeRead::Found(x, e) => match nothing_behind(s, e) {
                 Measure::Size(_) => TpmtEccSchemeRead::Found(x, e),
                 Measure::No(f) => TpmtEccSchemeRead::No(f),
@@ -467,9 +425,8 @@ impl TpmtEccScheme {
     pub fn walk(self, w: Walk, src: &[u8], out: &mut [u8]) -> Walk
         ensures { λ r. ⌜ Walks 3 tpmtAsymScheme (tpmtEccSchemeParts self) [] (now (src .entry)) (here w (now (out .entry))) (here r (now (out .exit))) ⌝ }
     {
-        let scheme = self.scheme;
         let details = self.details;
-        details.walk_tagged(scheme, w.algorithm(scheme, out), src, out)
+        details.walk_tagged(self.scheme, w.algorithm(self.scheme, out), src, out)
     }
 
     pub fn marshal(self, src: &[u8], out: &mut [u8]) -> Measure
@@ -482,15 +439,13 @@ impl TpmtEccScheme {
     pub fn field<'a>(self, s: &'a [u8], index: usize) -> &'a [u8]
         ensures { λ r. ⌜ now r ≡ partOf (fieldOf (tpmtEccSchemeParts self) index (now (s .entry))) ⌝ }
     {
-        let mut none = [0u8; 1];
-        self.walk(seeking(index), s, &mut none).part(s)
+        self.walk(seeking(index), s, &mut []).part(s)
     }
 
     pub fn field_size(self, s: &[u8], index: usize) -> Measure
         ensures { λ r. ⌜ measureAnswer r ≡ sizeOf (fieldOf (tpmtEccSchemeParts self) index (now (s .entry))) ⌝ }
     {
-        let mut none = [0u8; 1];
-        self.walk(seeking(index), s, &mut none).size(s, index)
+        self.walk(seeking(index), s, &mut []).size(s, index)
     }
 
     // It has no list.
@@ -527,19 +482,13 @@ impl TpmtRsaDecrypt {
             }
             TpmuAsymSchemeRead::No(f) => return TpmtRsaDecryptRead::No(f),
         };
-        TpmtRsaDecryptRead::Found(
-            TpmtRsaDecrypt {
-                scheme: scheme,
-                details: details,
-            },
-            end,
-        )
+        TpmtRsaDecryptRead::Found(Self { scheme, details }, end)
     }
 
     pub fn whole(s: &[u8], at: usize) -> TpmtRsaDecryptRead
         ensures { λ r. ⌜ tpmtRsaDecryptAnswer r ≡ readWhole tpmtAsymScheme (now (s .entry)) at ⌝ }
     {
-        match TpmtRsaDecrypt::unmarshal(s, at) {
+        match Self::unmarshal(s, at) {
             TpmtRsaDecryptRead::Found(x, e) => match nothing_behind(s, e) {
                 Measure::Size(_) => TpmtRsaDecryptRead::Found(x, e),
                 Measure::No(f) => TpmtRsaDecryptRead::No(f),
@@ -551,9 +500,8 @@ impl TpmtRsaDecrypt {
     pub fn walk(self, w: Walk, src: &[u8], out: &mut [u8]) -> Walk
         ensures { λ r. ⌜ Walks 3 tpmtAsymScheme (tpmtRsaDecryptParts self) [] (now (src .entry)) (here w (now (out .entry))) (here r (now (out .exit))) ⌝ }
     {
-        let scheme = self.scheme;
         let details = self.details;
-        details.walk_tagged(scheme, w.algorithm(scheme, out), src, out)
+        details.walk_tagged(self.scheme, w.algorithm(self.scheme, out), src, out)
     }
 
     pub fn marshal(self, src: &[u8], out: &mut [u8]) -> Measure
@@ -566,15 +514,13 @@ impl TpmtRsaDecrypt {
     pub fn field<'a>(self, s: &'a [u8], index: usize) -> &'a [u8]
         ensures { λ r. ⌜ now r ≡ partOf (fieldOf (tpmtRsaDecryptParts self) index (now (s .entry))) ⌝ }
     {
-        let mut none = [0u8; 1];
-        self.walk(seeking(index), s, &mut none).part(s)
+        self.walk(seeking(index), s, &mut []).part(s)
     }
 
     pub fn field_size(self, s: &[u8], index: usize) -> Measure
         ensures { λ r. ⌜ measureAnswer r ≡ sizeOf (fieldOf (tpmtRsaDecryptParts self) index (now (s .entry))) ⌝ }
     {
-        let mut none = [0u8; 1];
-        self.walk(seeking(index), s, &mut none).size(s, index)
+        self.walk(seeking(index), s, &mut []).size(s, index)
     }
 
     // It has no list.

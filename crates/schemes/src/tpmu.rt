@@ -1,5 +1,4 @@
-// The unions of kinds 3 to 8. Each reader goes by what the selector chooses, each `matches_tag` says whether the payload is the arm that the selector
-// chooses, and each walk asks that where the arm is due.
+// The unions of kinds 3 to 8. Each has the calls that a union has (ciphers, tpmu.rt).
 use crate::tpms::TpmsSchemeHash;
 use crate::tpms::TpmsSchemeHashRead;
 use crate::tpms::TpmsSchemeHmac;
@@ -72,13 +71,10 @@ impl TpmuAsymScheme {
         match tag.asym_scheme_arm() {
             Choice::The(t) => {
                 if t == 0 {
-                    return TpmuAsymSchemeRead::Found(TpmuAsymScheme::Null, at);
+                    return TpmuAsymSchemeRead::Found(Self::Null, at);
                 }
                 match TpmsSchemeHash::unmarshal(s, at) {
-                    TpmsSchemeHashRead::Found(x, e) => TpmuAsymSchemeRead::Found(
-                        TpmuAsymScheme::Hash(x),
-                        e,
-                    ),
+                    TpmsSchemeHashRead::Found(x, e) => TpmuAsymSchemeRead::Found(Self::Hash(x), e),
                     TpmsSchemeHashRead::No(f) => TpmuAsymSchemeRead::No(f),
                 }
             }
@@ -86,14 +82,13 @@ impl TpmuAsymScheme {
         }
     }
 
-    // Whether the payload is the arm that the selector chooses.
     pub fn matches_tag(self, tag: TpmAlgId) -> bool
         ensures { λ r. ⌜ r ≡ isArm (tpmuAsymSchemeArm (tag .0)) (held (tpmuAsymSchemeParts self)) ⌝ }
     {
         let chosen = tag.asym_scheme_arm();
         match self {
-            TpmuAsymScheme::Hash(_) => chosen.is(1),
-            TpmuAsymScheme::Null => chosen.is(0),
+            Self::Hash(_) => chosen.is(1),
+            Self::Null => chosen.is(0),
         }
     }
 
@@ -102,8 +97,8 @@ impl TpmuAsymScheme {
     {
         let v = w.due(tag.0, tag.asym_scheme_arm(), self.matches_tag(tag));
         match self {
-            TpmuAsymScheme::Hash(x) => x.walk(v, src, out),
-            TpmuAsymScheme::Null => v,
+            Self::Hash(x) => x.walk(v, src, out),
+            Self::Null => v,
         }
     }
 }
@@ -115,33 +110,26 @@ impl TpmuKeyedhashScheme {
         let v = tag.0;
         match v {
             registry::HMAC => match TpmsSchemeHash::unmarshal(s, at) {
-                TpmsSchemeHashRead::Found(x, e) => TpmuKeyedhashSchemeRead::Found(
-                    TpmuKeyedhashScheme::Hmac(x),
-                    e,
-                ),
+                TpmsSchemeHashRead::Found(x, e) => TpmuKeyedhashSchemeRead::Found(Self::Hmac(x), e),
                 TpmsSchemeHashRead::No(f) => TpmuKeyedhashSchemeRead::No(f),
             },
             registry::XOR => match TpmsSchemeXor::unmarshal(s, at) {
-                TpmsSchemeXorRead::Found(x, e) => TpmuKeyedhashSchemeRead::Found(
-                    TpmuKeyedhashScheme::Xor(x),
-                    e,
-                ),
+                TpmsSchemeXorRead::Found(x, e) => TpmuKeyedhashSchemeRead::Found(Self::Xor(x), e),
                 TpmsSchemeXorRead::No(f) => TpmuKeyedhashSchemeRead::No(f),
             },
-            registry::NULL => TpmuKeyedhashSchemeRead::Found(TpmuKeyedhashScheme::Null, at),
+            registry::NULL => TpmuKeyedhashSchemeRead::Found(Self::Null, at),
             _ => TpmuKeyedhashSchemeRead::No(Refusal::no_arm(at, wide(v))),
         }
     }
 
-    // Whether the payload is the arm that the selector chooses.
     pub fn matches_tag(self, tag: TpmAlgId) -> bool
         ensures { λ r. ⌜ r ≡ isArm (tpmuKeyedhashSchemeArm (tag .0)) (held (tpmuKeyedhashSchemeParts self)) ⌝ }
     {
         let v = tag.0;
         match self {
-            TpmuKeyedhashScheme::Hmac(_) => v == registry::HMAC,
-            TpmuKeyedhashScheme::Xor(_) => v == registry::XOR,
-            TpmuKeyedhashScheme::Null => v == registry::NULL,
+            Self::Hmac(_) => v == registry::HMAC,
+            Self::Xor(_) => v == registry::XOR,
+            Self::Null => v == registry::NULL,
         }
     }
 
@@ -150,9 +138,9 @@ impl TpmuKeyedhashScheme {
     {
         let v = w.due(tag.0, tag.keyedhash_scheme_arm(), self.matches_tag(tag));
         match self {
-            TpmuKeyedhashScheme::Hmac(x) => x.walk(v, src, out),
-            TpmuKeyedhashScheme::Xor(x) => x.walk(v, src, out),
-            TpmuKeyedhashScheme::Null => v,
+            Self::Hmac(x) => x.walk(v, src, out),
+            Self::Xor(x) => x.walk(v, src, out),
+            Self::Null => v,
         }
     }
 }
@@ -164,14 +152,14 @@ impl TpmuSigScheme {
         match tag.sig_scheme_arm() {
             Choice::The(t) => {
                 if t == 0 {
-                    return TpmuSigSchemeRead::Found(TpmuSigScheme::Null, at);
+                    return TpmuSigSchemeRead::Found(Self::Null, at);
                 }
                 match TpmsSchemeHash::unmarshal(s, at) {
                     TpmsSchemeHashRead::Found(x, e) => {
                         if t == 1 {
-                            return TpmuSigSchemeRead::Found(TpmuSigScheme::Hash(x), e);
+                            return TpmuSigSchemeRead::Found(Self::Hash(x), e);
                         }
-                        TpmuSigSchemeRead::Found(TpmuSigScheme::Hmac(x), e)
+                        TpmuSigSchemeRead::Found(Self::Hmac(x), e)
                     }
                     TpmsSchemeHashRead::No(f) => TpmuSigSchemeRead::No(f),
                 }
@@ -180,15 +168,14 @@ impl TpmuSigScheme {
         }
     }
 
-    // Whether the payload is the arm that the selector chooses.
     pub fn matches_tag(self, tag: TpmAlgId) -> bool
         ensures { λ r. ⌜ r ≡ isArm (tpmuSigSchemeArm (tag .0)) (held (tpmuSigSchemeParts self)) ⌝ }
     {
         let chosen = tag.sig_scheme_arm();
         match self {
-            TpmuSigScheme::Hash(_) => chosen.is(1),
-            TpmuSigScheme::Hmac(_) => chosen.is(2),
-            TpmuSigScheme::Null => chosen.is(0),
+            Self::Hash(_) => chosen.is(1),
+            Self::Hmac(_) => chosen.is(2),
+            Self::Null => chosen.is(0),
         }
     }
 
@@ -197,9 +184,9 @@ impl TpmuSigScheme {
     {
         let v = w.due(tag.0, tag.sig_scheme_arm(), self.matches_tag(tag));
         match self {
-            TpmuSigScheme::Hash(x) => x.walk(v, src, out),
-            TpmuSigScheme::Hmac(x) => x.walk(v, src, out),
-            TpmuSigScheme::Null => v,
+            Self::Hash(x) => x.walk(v, src, out),
+            Self::Hmac(x) => x.walk(v, src, out),
+            Self::Null => v,
         }
     }
 }
@@ -211,49 +198,42 @@ impl TpmuKdfScheme {
         let v = tag.0;
         match v {
             registry::MGF1 => match TpmsSchemeHash::unmarshal(s, at) {
-                TpmsSchemeHashRead::Found(x, e) => TpmuKdfSchemeRead::Found(
-                    TpmuKdfScheme::Mgf1(x),
-                    e,
-                ),
+                TpmsSchemeHashRead::Found(x, e) => TpmuKdfSchemeRead::Found(Self::Mgf1(x), e),
                 TpmsSchemeHashRead::No(f) => TpmuKdfSchemeRead::No(f),
             },
             registry::KDF1_SP800_56A => match TpmsSchemeHash::unmarshal(s, at) {
                 TpmsSchemeHashRead::Found(x, e) => TpmuKdfSchemeRead::Found(
-                    TpmuKdfScheme::Kdf1Sp800_56a(x),
+                    Self::Kdf1Sp800_56a(x),
                     e,
                 ),
                 TpmsSchemeHashRead::No(f) => TpmuKdfSchemeRead::No(f),
             },
             registry::KDF2 => match TpmsSchemeHash::unmarshal(s, at) {
-                TpmsSchemeHashRead::Found(x, e) => TpmuKdfSchemeRead::Found(
-                    TpmuKdfScheme::Kdf2(x),
-                    e,
-                ),
+                TpmsSchemeHashRead::Found(x, e) => TpmuKdfSchemeRead::Found(Self::Kdf2(x), e),
                 TpmsSchemeHashRead::No(f) => TpmuKdfSchemeRead::No(f),
             },
             registry::KDF1_SP800_108 => match TpmsSchemeHash::unmarshal(s, at) {
                 TpmsSchemeHashRead::Found(x, e) => TpmuKdfSchemeRead::Found(
-                    TpmuKdfScheme::Kdf1Sp800_108(x),
+                    Self::Kdf1Sp800_108(x),
                     e,
                 ),
                 TpmsSchemeHashRead::No(f) => TpmuKdfSchemeRead::No(f),
             },
-            registry::NULL => TpmuKdfSchemeRead::Found(TpmuKdfScheme::Null, at),
+            registry::NULL => TpmuKdfSchemeRead::Found(Self::Null, at),
             _ => TpmuKdfSchemeRead::No(Refusal::no_arm(at, wide(v))),
         }
     }
 
-    // Whether the payload is the arm that the selector chooses.
     pub fn matches_tag(self, tag: TpmAlgId) -> bool
         ensures { λ r. ⌜ r ≡ isArm (tpmuKdfSchemeArm (tag .0)) (held (tpmuKdfSchemeParts self)) ⌝ }
     {
         let v = tag.0;
         match self {
-            TpmuKdfScheme::Mgf1(_) => v == registry::MGF1,
-            TpmuKdfScheme::Kdf1Sp800_56a(_) => v == registry::KDF1_SP800_56A,
-            TpmuKdfScheme::Kdf2(_) => v == registry::KDF2,
-            TpmuKdfScheme::Kdf1Sp800_108(_) => v == registry::KDF1_SP800_108,
-            TpmuKdfScheme::Null => v == registry::NULL,
+            Self::Mgf1(_) => v == registry::MGF1,
+            Self::Kdf1Sp800_56a(_) => v == registry::KDF1_SP800_56A,
+            Self::Kdf2(_) => v == registry::KDF2,
+            Self::Kdf1Sp800_108(_) => v == registry::KDF1_SP800_108,
+            Self::Null => v == registry::NULL,
         }
     }
 
@@ -262,11 +242,11 @@ impl TpmuKdfScheme {
     {
         let v = w.due(tag.0, tag.kdf_scheme_arm(), self.matches_tag(tag));
         match self {
-            TpmuKdfScheme::Mgf1(x) => x.walk(v, src, out),
-            TpmuKdfScheme::Kdf1Sp800_56a(x) => x.walk(v, src, out),
-            TpmuKdfScheme::Kdf2(x) => x.walk(v, src, out),
-            TpmuKdfScheme::Kdf1Sp800_108(x) => x.walk(v, src, out),
-            TpmuKdfScheme::Null => v,
+            Self::Mgf1(x) => x.walk(v, src, out),
+            Self::Kdf1Sp800_56a(x) => x.walk(v, src, out),
+            Self::Kdf2(x) => x.walk(v, src, out),
+            Self::Kdf1Sp800_108(x) => x.walk(v, src, out),
+            Self::Null => v,
         }
     }
 }

@@ -57,22 +57,14 @@ impl TpmsSignatureRsa {
             }
             SpanRead::No(f) => return TpmsSignatureRsaRead::No(f),
         };
-        TpmsSignatureRsaRead::Found(
-            TpmsSignatureRsa {
-                hash: hash,
-                sig: sig,
-            },
-            end,
-        )
+        TpmsSignatureRsaRead::Found(Self { hash, sig }, end)
     }
 
     pub fn walk(self, w: Walk, src: &[u8], out: &mut [u8]) -> Walk
         ensures { λ r. ⌜ Walks 2 tpmsSignatureRsa (tpmsSignatureRsaParts self) [] (now (src .entry)) (here w (now (out .entry))) (here r (now (out .exit))) ⌝ }
     {
-        let hash = self.hash;
-        let sig = self.sig;
-        w.algorithm(hash, out)
-            .buffer(limits::MAX_RSA_KEY_BYTES, sig, src, out)
+        w.algorithm(self.hash, out)
+            .buffer(limits::MAX_RSA_KEY_BYTES, self.sig, src, out)
     }
 }
 
@@ -104,10 +96,10 @@ impl TpmsSignatureEcc {
             SpanRead::No(f) => return TpmsSignatureEccRead::No(f),
         };
         TpmsSignatureEccRead::Found(
-            TpmsSignatureEcc {
-                hash: hash,
-                signature_r: signature_r,
-                signature_s: signature_s,
+            Self {
+                hash,
+                signature_r,
+                signature_s,
             },
             end,
         )
@@ -116,11 +108,8 @@ impl TpmsSignatureEcc {
     pub fn walk(self, w: Walk, src: &[u8], out: &mut [u8]) -> Walk
         ensures { λ r. ⌜ Walks 3 tpmsSignatureEcc (tpmsSignatureEccParts self) [] (now (src .entry)) (here w (now (out .entry))) (here r (now (out .exit))) ⌝ }
     {
-        let hash = self.hash;
-        let signature_r = self.signature_r;
-        let signature_s = self.signature_s;
-        w.algorithm(hash, out)
-            .buffer(limits::MAX_ECC_KEY_BYTES, signature_r, src, out)
-            .buffer(limits::MAX_ECC_KEY_BYTES, signature_s, src, out)
+        w.algorithm(self.hash, out)
+            .buffer(limits::MAX_ECC_KEY_BYTES, self.signature_r, src, out)
+            .buffer(limits::MAX_ECC_KEY_BYTES, self.signature_s, src, out)
     }
 }

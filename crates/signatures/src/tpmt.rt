@@ -51,19 +51,13 @@ impl TpmtSignature {
             }
             TpmuSignatureRead::No(f) => return TpmtSignatureRead::No(f),
         };
-        TpmtSignatureRead::Found(
-            TpmtSignature {
-                sig_alg: sig_alg,
-                signature: signature,
-            },
-            end,
-        )
+        TpmtSignatureRead::Found(Self { sig_alg, signature }, end)
     }
 
     pub fn whole(s: &[u8], at: usize) -> TpmtSignatureRead
         ensures { λ r. ⌜ tpmtSignatureAnswer r ≡ readWhole tpmtSignature (now (s .entry)) at ⌝ }
     {
-        match TpmtSignature::unmarshal(s, at) {
+        match Self::unmarshal(s, at) {
             TpmtSignatureRead::Found(x, e) => match nothing_behind(s, e) {
                 Measure::Size(_) => TpmtSignatureRead::Found(x, e),
                 Measure::No(f) => TpmtSignatureRead::No(f),
@@ -75,9 +69,8 @@ impl TpmtSignature {
     pub fn walk(self, w: Walk, src: &[u8], out: &mut [u8]) -> Walk
         ensures { λ r. ⌜ Walks 5 tpmtSignature (tpmtSignatureParts self) [] (now (src .entry)) (here w (now (out .entry))) (here r (now (out .exit))) ⌝ }
     {
-        let sig_alg = self.sig_alg;
         let signature = self.signature;
-        signature.walk_tagged(sig_alg, w.algorithm(sig_alg, out), src, out)
+        signature.walk_tagged(self.sig_alg, w.algorithm(self.sig_alg, out), src, out)
     }
 
     pub fn marshal(self, src: &[u8], out: &mut [u8]) -> Measure
@@ -90,15 +83,13 @@ impl TpmtSignature {
     pub fn field<'a>(self, s: &'a [u8], index: usize) -> &'a [u8]
         ensures { λ r. ⌜ now r ≡ partOf (fieldOf (tpmtSignatureParts self) index (now (s .entry))) ⌝ }
     {
-        let mut none = [0u8; 1];
-        self.walk(seeking(index), s, &mut none).part(s)
+        self.walk(seeking(index), s, &mut []).part(s)
     }
 
     pub fn field_size(self, s: &[u8], index: usize) -> Measure
         ensures { λ r. ⌜ measureAnswer r ≡ sizeOf (fieldOf (tpmtSignatureParts self) index (now (s .entry))) ⌝ }
     {
-        let mut none = [0u8; 1];
-        self.walk(seeking(index), s, &mut none).size(s, index)
+        self.walk(seeking(index), s, &mut []).size(s, index)
     }
 
     // It has no list.

@@ -1,4 +1,4 @@
-// The union of signatures, by the signature's algorithm.
+// The union of signatures, by the signature's algorithm. It has the calls that a union has (ciphers, tpmu.rt).
 use crate::tpms::TpmsSignatureEcc;
 use crate::tpms::TpmsSignatureEccRead;
 use crate::tpms::TpmsSignatureRsa;
@@ -42,70 +42,54 @@ impl TpmuSignature {
         let v = tag.0;
         match v {
             registry::RSASSA => match TpmsSignatureRsa::unmarshal(s, at) {
-                TpmsSignatureRsaRead::Found(x, e) => TpmuSignatureRead::Found(
-                    TpmuSignature::Rsassa(x),
-                    e,
-                ),
+                TpmsSignatureRsaRead::Found(x, e) => TpmuSignatureRead::Found(Self::Rsassa(x), e),
                 TpmsSignatureRsaRead::No(f) => TpmuSignatureRead::No(f),
             },
             registry::RSAPSS => match TpmsSignatureRsa::unmarshal(s, at) {
-                TpmsSignatureRsaRead::Found(x, e) => TpmuSignatureRead::Found(
-                    TpmuSignature::Rsapss(x),
-                    e,
-                ),
+                TpmsSignatureRsaRead::Found(x, e) => TpmuSignatureRead::Found(Self::Rsapss(x), e),
                 TpmsSignatureRsaRead::No(f) => TpmuSignatureRead::No(f),
             },
             registry::ECDSA => match TpmsSignatureEcc::unmarshal(s, at) {
-                TpmsSignatureEccRead::Found(x, e) => TpmuSignatureRead::Found(
-                    TpmuSignature::Ecdsa(x),
-                    e,
-                ),
+                TpmsSignatureEccRead::Found(x, e) => TpmuSignatureRead::Found(Self::Ecdsa(x), e),
                 TpmsSignatureEccRead::No(f) => TpmuSignatureRead::No(f),
             },
             registry::ECDAA => match TpmsSignatureEcc::unmarshal(s, at) {
-                TpmsSignatureEccRead::Found(x, e) => TpmuSignatureRead::Found(
-                    TpmuSignature::Ecdaa(x),
-                    e,
-                ),
+                TpmsSignatureEccRead::Found(x, e) => TpmuSignatureRead::Found(Self::Ecdaa(x), e),
                 TpmsSignatureEccRead::No(f) => TpmuSignatureRead::No(f),
             },
             registry::SM2 => match TpmsSignatureEcc::unmarshal(s, at) {
-                TpmsSignatureEccRead::Found(x, e) => TpmuSignatureRead::Found(
-                    TpmuSignature::Sm2(x),
-                    e,
-                ),
+                TpmsSignatureEccRead::Found(x, e) => TpmuSignatureRead::Found(Self::Sm2(x), e),
                 TpmsSignatureEccRead::No(f) => TpmuSignatureRead::No(f),
             },
             registry::ECSCHNORR => match TpmsSignatureEcc::unmarshal(s, at) {
                 TpmsSignatureEccRead::Found(x, e) => TpmuSignatureRead::Found(
-                    TpmuSignature::Ecschnorr(x),
+                    Self::Ecschnorr(x),
                     e,
                 ),
                 TpmsSignatureEccRead::No(f) => TpmuSignatureRead::No(f),
             },
             registry::HMAC => match TpmtHa::unmarshal(s, at) {
-                TpmtHaRead::Found(x, e) => TpmuSignatureRead::Found(TpmuSignature::Hmac(x), e),
+                TpmtHaRead::Found(x, e) => TpmuSignatureRead::Found(Self::Hmac(x), e),
                 TpmtHaRead::No(f) => TpmuSignatureRead::No(f),
             },
-            registry::NULL => TpmuSignatureRead::Found(TpmuSignature::Null, at),
+            registry::NULL => TpmuSignatureRead::Found(Self::Null, at),
             _ => TpmuSignatureRead::No(Refusal::no_arm(at, wide(v))),
         }
     }
 
-    // Whether the payload is the arm that the selector chooses.
     pub fn matches_tag(self, tag: TpmAlgId) -> bool
         ensures { λ r. ⌜ r ≡ isArm (tpmuSignatureArm (tag .0)) (held (tpmuSignatureParts self)) ⌝ }
     {
         let v = tag.0;
         match self {
-            TpmuSignature::Rsassa(_) => v == registry::RSASSA,
-            TpmuSignature::Rsapss(_) => v == registry::RSAPSS,
-            TpmuSignature::Ecdsa(_) => v == registry::ECDSA,
-            TpmuSignature::Ecdaa(_) => v == registry::ECDAA,
-            TpmuSignature::Sm2(_) => v == registry::SM2,
-            TpmuSignature::Ecschnorr(_) => v == registry::ECSCHNORR,
-            TpmuSignature::Hmac(_) => v == registry::HMAC,
-            TpmuSignature::Null => v == registry::NULL,
+            Self::Rsassa(_) => v == registry::RSASSA,
+            Self::Rsapss(_) => v == registry::RSAPSS,
+            Self::Ecdsa(_) => v == registry::ECDSA,
+            Self::Ecdaa(_) => v == registry::ECDAA,
+            Self::Sm2(_) => v == registry::SM2,
+            Self::Ecschnorr(_) => v == registry::ECSCHNORR,
+            Self::Hmac(_) => v == registry::HMAC,
+            Self::Null => v == registry::NULL,
         }
     }
 
@@ -114,14 +98,14 @@ impl TpmuSignature {
     {
         let v = w.due(tag.0, tag.signature_arm(), self.matches_tag(tag));
         match self {
-            TpmuSignature::Rsassa(x) => x.walk(v, src, out),
-            TpmuSignature::Rsapss(x) => x.walk(v, src, out),
-            TpmuSignature::Ecdsa(x) => x.walk(v, src, out),
-            TpmuSignature::Ecdaa(x) => x.walk(v, src, out),
-            TpmuSignature::Sm2(x) => x.walk(v, src, out),
-            TpmuSignature::Ecschnorr(x) => x.walk(v, src, out),
-            TpmuSignature::Hmac(x) => x.walk(v, src, out),
-            TpmuSignature::Null => v,
+            Self::Rsassa(x) => x.walk(v, src, out),
+            Self::Rsapss(x) => x.walk(v, src, out),
+            Self::Ecdsa(x) => x.walk(v, src, out),
+            Self::Ecdaa(x) => x.walk(v, src, out),
+            Self::Sm2(x) => x.walk(v, src, out),
+            Self::Ecschnorr(x) => x.walk(v, src, out),
+            Self::Hmac(x) => x.walk(v, src, out),
+            Self::Null => v,
         }
     }
 }

@@ -15,6 +15,7 @@ use Rattle.wire.specs.Items.{itemOf}
 use Rattle.steps.specs.declared.walk.Walk.{Walk}
 use Rattle.steps.specs.Walks.{here, seeking, listSeeking, foundBy, seekAnswer, run, Walks}
 use Rattle.steps.proofs.Runs.{run-seeks, run-list}
+pub use borrow.Author.Needs.{needs}
 
 -- only byte fields are counted
 pick-spans : (ps : List Part) (i asked : ℕ) (src : List ℕ) → pickField (spans ps) i asked src ≡ pickField ps i asked src

@@ -1,8 +1,6 @@
 pub mod Spelled
 pub mod Plans
 pub mod Reach
-pub mod Lists
-pub mod Items
 pub mod Runs
 pub mod Walked
 pub mod Search
@@ -14,4 +12,3 @@ pub mod Found
 pub mod Marshalled
 pub mod Listed
 pub mod Matches
-pub mod Once

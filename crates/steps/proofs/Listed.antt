@@ -27,9 +27,9 @@ use Rattle.text.specs.Text.{lineText, linesText}
 use Rattle.text.proofs.Putting.{puts-length, puts-then, puts-none}
 use Rattle.text.proofs.Rows.{number-line-length, bytes-line-length}
 use Rattle.steps.specs.declared.walk.Walk.{Walk}
-use Rattle.steps.specs.Steps.{Step, Number, Plain, Buffer, Items, Due, spell, spellStep, laid, itemsLines, stepLines, linesOf}
-use Rattle.steps.specs.Walks.{Here, here, lining, needOf, putLine, putLines, toPlace, onTo, lineStep, leftLines, stepWalk, run, Walks}
-use Rattle.steps.proofs.Lists.{items-legal, count-few}
+use Rattle.steps.specs.Steps.{Step, Number, Plain, Buffer, Items, Due, spell, spellStep, laid, itemsLines, leftLines, stepLines, linesOf}
+use Rattle.steps.specs.Walks.{Here, here, lining, needOf, putLine, putLines, toPlace, onTo, lineStep, stepWalk, run, Walks}
+use Rattle.steps.proofs.Reach.{items-legal, count-few}
 use Rattle.steps.proofs.Spelled.{next-step, step-is, cut-is}
 
 -- ---- lines, where there is room for them

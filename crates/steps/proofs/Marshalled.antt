@@ -22,6 +22,7 @@ use Rattle.steps.specs.Walks.{Here, here, judging, putting, refusing, af
 use Rattle.steps.specs.Writes.{Writes}
 use Rattle.steps.proofs.Leaves.{numbered}
 use Rattle.steps.proofs.Runs.{stays-no, run-judges, run-puts}
+pub use borrow.Author.Needs.{needs}
 
 pub refusing-answer : (f : Refusal) → walkAnswer (refusing f) ≡ refused f
 unfolding walkAnswer

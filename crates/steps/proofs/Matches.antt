@@ -8,6 +8,7 @@ use borrow.Author.Tests.{eq-eqb, ne-eqb, eqb-true}
 use Rattle.wire.specs.declared.choice.Choice.{Choice}
 use Rattle.wire.specs.Reading.{Part}
 use Rattle.wire.specs.Unions.{Row, armOf, isArm, held}
+pub use borrow.Author.Needs.{needs}
 
 -- each row's arm has its selector's code
 abbrev pub allOwn : List Row → Bool

@@ -1,23 +1,20 @@
--- How far a list reaches: neither its end nor the place of a refusal lies beyond the greatest list. Assumes nothing.
-use Prim.Native.Nat.{ℕ, zero, suc, _+_, _-_, _*_, _≤_}
+-- How far a list reaches: neither its end nor the place of a refusal lies beyond the greatest list, and a legal one has all its items. Assumes nothing.
+use Prim.Native.Nat.{ℕ, zero, suc, _+_, _*_, _≤_}
 use native.Mathlib.Nat.{suc-mul, mul-le-mul-right}
 use native.Mathlib.Omega.{arith}
-use mathlib.Core.Path.{_≡_, refl, sym}
+use mathlib.Core.Path.{_≡_, refl, ap, _∙_}
 use mathlib.Core.Bool.{Bool, true, false, cond}
 use mathlib.Core.List.{List}
 use lib.ListN.{length, take, drop}
-use lib.Dec.{leb}
-use borrow.Author.Tests.{leb-true}
+use lib.Dec.{leb, eqb}
+use borrow.Author.Tests.{leb-true, eqb-true}
 use Rattle.wire.specs.declared.fault.Refusal.{Refusal}
-use Rattle.wire.specs.Bytes.{Bytes, be}
+use Rattle.wire.specs.Bytes.{be}
 use Rattle.wire.specs.Faults.{short}
 use Rattle.wire.specs.Layout.{Rule, free, listed, fixed, lengthTo, countTo, allows, breach, stop, buffer}
 use Rattle.wire.specs.Reading.{Part, num, Ans, found, refused, next, also, left, Parsed, piece, field, walk, list, endOf, read}
-use Rattle.wire.specs.Writing.{cut}
-use Rattle.wire.specs.Fields.{partOf}
-use Rattle.wire.proofs.Sound.{list-sound, read-sound}
-use Rattle.wire.proofs.Stand.{stands-left, stands-bytes}
-use Rattle.wire.proofs.Written.{cut-found}
+use Rattle.wire.specs.Writing.{whole}
+use Rattle.wire.proofs.Steps.{found-same, next-found, when-found}
 use Rattle.format.specs.Codes.{alg}
 use Rattle.format.specs.declared.list.ListOf.{ListOf}
 use Rattle.format.specs.Kinds.{tpmsPcrSelection, itemLayout, mostItems}
@@ -121,16 +118,30 @@ module _ (i : ListOf) where
     pub list-place : {f : Refusal} → refused f ≡ list (mostItems i) (λ s a. read (itemLayout i) s a) xs 0 → f .place ≤ 0x10000
     list-place p = omega (arith, list-small i, rw (← p) at (list-within xs))
 
-    -- and a list ends in the bytes that it was found in
-    pub list-inside : {e : ℕ} → Bytes xs → found e ≡ list (mostItems i) (λ s a. read (itemLayout i) s a) xs 0 → e ≤ length xs
-    list-inside b p =
-        let d = list-sound (mostItems i) (itemLayout i) (read-sound (itemLayout i)) xs 0 b (sym p) in
-        omega (arith, d .ends, stands-left (d .stands))
+-- ---- a legal list: it ends with its bytes, and has as many items as it counts
 
--- the bytes of a span are bytes
-pub part-bytes : (src : List ℕ) (start len at : ℕ) {xs : List ℕ} → xs ≡ partOf (cut src start len at) → Bytes src → Bytes xs
-part-bytes src start len at same b = rw same (by (cut src start len at) refl)
-  where
-    by : (a : Ans (List ℕ)) → cut src start len at ≡ a → Bytes (partOf a)
-    by (found xs) e = stands-bytes b (cut-found src start len at e .1)
-    by (refused f) e = tt
+module _ (which : ListOf) (xs : List ℕ) where
+  pub ends-list : {ys : List ℕ} → whole (mostItems which) (itemLayout which) xs ≡ found ys → list (mostItems which) (λ s a. read (itemLayout which) s a) xs 0 ≡ found (length xs)
+  unfolding whole
+  ends-list w =
+      let (e, l, q) = next-found (list (mostItems which) (λ s a. read (itemLayout which) s a) xs 0) _ w in
+      let (t, same) = when-found (eqb e (length xs)) _ _ q in
+      l ∙ ap found (eqb-true e (length xs) t)
+
+  -- its count is allowed, and so many items are there
+  items-there : {ys : List ℕ} → whole (mostItems which) (itemLayout which) xs ≡ found ys
+      → (be (take 4 xs) ≤ mostItems which) × (walk (λ s a. read (itemLayout which) s a) (be (take 4 xs)) xs 4 ≡ found (length xs))
+  unfolding list field piece
+  items-there w =
+      let (n, f, r) = next-found (field 4 (countTo (mostItems which)) xs 0) _ (ends-list w) in
+      let (zs, g, h) = next-found (piece 4 xs 0) _ f in
+      let (t, is) = when-found (allows (countTo (mostItems which)) (be zs)) _ _ h in
+      let (u, v) = when-found (leb 4 (left xs 0)) _ _ g in
+      let same : be (take 4 xs) ≡ be zs = ap be (found-same v) in
+      (rw same (leb-true (be zs) (mostItems which) t), ap (λ k. walk (λ s a. read (itemLayout which) s a) k xs 4) (same ∙ found-same is) ∙ r)
+
+  pub items-legal : {n : ℕ} {ys : List ℕ} → whole (mostItems which) (itemLayout which) xs ≡ found ys → n ≡ be (take 4 xs) → walk (λ s a. read (itemLayout which) s a) n xs 4 ≡ found (length xs)
+  items-legal w same = ap (λ k. walk (λ s a. read (itemLayout which) s a) k xs 4) same ∙ items-there w .1
+
+  pub count-few : {ys : List ℕ} → whole (mostItems which) (itemLayout which) xs ≡ found ys → be (take 4 xs) ≤ mostItems which
+  count-few w = items-there w .0

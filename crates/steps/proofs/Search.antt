@@ -21,6 +21,7 @@ use Rattle.steps.specs.declared.walk.Walk.{Walk}
 use Rattle.steps.specs.Steps.{Buffer, Items}
 use Rattle.steps.specs.Walks.{Here, here, Goes, Walks, Numbers, Dues}
 use Rattle.steps.proofs.Walked.{walks-none, walks-more, walks-number, walks-then, walks-buffer, walks-list, holds}
+pub use borrow.Author.Needs.{needs}
 
 -- one step, and those that are left
 one-more : (k : ℕ) → leb 1 k ≡ true → leb (suc (k - 1)) k ≡ true

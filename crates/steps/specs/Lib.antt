@@ -1,4 +1,3 @@
-pub mod Items
 pub mod Steps
 pub mod Walks
 pub mod Near

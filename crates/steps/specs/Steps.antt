@@ -12,7 +12,7 @@ use Rattle.wire.specs.Answers.{widthOf, startOf, lenOf, spanPart}
 use Rattle.wire.specs.Bytes.{digits}
 use Rattle.wire.specs.Faults.{noSuchArm, mismatch}
 use Rattle.wire.specs.Layout.{Rule, lengthTo, Layout}
-use Rattle.wire.specs.Lines.{aNumber, sayNumber, Line, line, spanLine, listLines, lines}
+use Rattle.wire.specs.Lines.{aNumber, sayNumber, Line, line, spanLine, itemLines, listLines, lines}
 use Rattle.wire.specs.Reading.{Part, Ans, found, refused, next, read}
 use Rattle.wire.specs.Writing.{cut, spelt, whole, moved, ahead, onto, lay, odd}
 use Rattle.wire.specs.Fields.{spans}
@@ -85,6 +85,10 @@ listsOf (Due v c b ∷ ss) = listsOf ss
 -- the lines of a list of such items
 abbrev pub itemsLines : ListOf → (xs : List ℕ) (at : ℕ) → List Line
 itemsLines i xs at = listLines (λ qs ys a. lines (itemLayout i) qs ys a) (λ s a. read (itemLayout i) s a) xs at
+
+-- the lines of the n items of xs from the place e on; the list stands at the place `at`
+abbrev pub leftLines : ListOf → (n : ℕ) (xs : List ℕ) (e at : ℕ) → List Line
+leftLines i n xs e at = itemLines (λ qs ys a. lines (itemLayout i) qs ys a) (λ s a. read (itemLayout i) s a) n xs e at
 
 -- the lines of a step, and of steps one behind the other
 abbrev pub stepLines : Step → (src : List ℕ) (at : ℕ) → List Line

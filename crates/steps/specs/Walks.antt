@@ -14,12 +14,10 @@ use Rattle.wire.specs.Answers.{widthOf, startOf, lenOf}
 use Rattle.wire.specs.Bytes.{digits}
 use Rattle.wire.specs.Faults.{paper, refusal, noField, noRoom, noSuchArm, mismatch}
 use Rattle.wire.specs.Layout.{Rule, Layout}
-use Rattle.wire.specs.Lines.{Says, aCode, aNumber, theBytes, Line, line, itemLines, lines}
-use Rattle.wire.specs.Reading.{Part, Ans, found, refused, next, Parsed, read}
+use Rattle.wire.specs.Lines.{Says, aCode, aNumber, theBytes, Line, line}
+use Rattle.wire.specs.Reading.{Part, Ans, found, refused, next}
 use Rattle.wire.specs.Writing.{cut}
 use Rattle.wire.specs.Filling.{written, filled}
-use Rattle.format.specs.declared.list.ListOf.{ListOf}
-use Rattle.format.specs.Kinds.{itemLayout}
 use Rattle.text.specs.declared.line.Word.{Word}
 use Rattle.text.specs.Text.{sayWord, lineText}
 use Rattle.steps.specs.Steps.{Step, Number, Plain, Buffer, Items, Due, spellStep, stepLines, Plans}
@@ -186,15 +184,6 @@ toPlace e w = forLines (w .mode) (here w []) (here (lining e (w .value)) []) .wa
 
 abbrev pub onTo : (e : ℕ) → Here → Here
 onTo e h = here (toPlace e (h .walk)) (h .out)
-
--- the lines of the n items of xs from the place e on; the list stands at the place `at`
-abbrev pub leftLines : ListOf → (n : ℕ) (xs : List ℕ) (e at : ℕ) → List Line
-leftLines i n xs e at = itemLines (λ qs ys a. lines (itemLayout i) qs ys a) (λ s a. read (itemLayout i) s a) n xs e at
-
--- from a to b the lines of the item of xs at the place e are put, if there is one, and f is where it ends; the list stands at the place `at`
-pub record ItemLined (i : ListOf) (xs : List ℕ) (e at : ℕ) (a b : Here) (f : ℕ) : Type 0 where
-  pub puts : {r : Parsed} → read (itemLayout i) xs e ≡ found r → b ≡ putLines (lines (itemLayout i) (r .parts) xs (at + e)) a
-  pub ends : {r : Parsed} → read (itemLayout i) xs e ≡ found r → f ≡ r .stops
 
 -- of bytes and of lists no line is put unless they are legal
 abbrev pub linesIf : Ans ℕ → List Line → Here → Here

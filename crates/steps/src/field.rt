@@ -26,7 +26,7 @@ fn seek_span(span: Span, index: usize) -> Walk
 
 impl Walk {
     // A byte field, where one is sought.
-    pub(crate) fn sought(self, span: Span) -> Walk
+    pub fn sought(self, span: Span) -> Walk
         ensures { λ r. ⌜ r ≡ cond (eqb (self .mode) 2) (seekSpan span (self .at)) self ⌝ }
     {
         if self.mode == SEEK {

@@ -27,14 +27,7 @@ fn room(at: usize, k: usize, n: usize) -> bool
 
 impl Walk {
     // The line of a number that stands at `place`.
-    pub(crate) fn number_line(
-        self,
-        place: usize,
-        word: Word,
-        w: Width,
-        n: u64,
-        out: &mut [u8],
-    ) -> Walk
+    pub fn number_line(self, place: usize, word: Word, w: Width, n: u64, out: &mut [u8]) -> Walk
         ensures { λ r. ⌜ here r (now (out .exit)) ≡ putLine (line place (widthOf w) (sayWord word n)) (here self (now (out .entry))) ⌝ }
     {
         if self.mode == LINES {
@@ -48,7 +41,7 @@ impl Walk {
     }
 
     // The line of the bytes of a span of src that stand at `place`.
-    pub(crate) fn bytes_line(self, place: usize, span: Span, src: &[u8], out: &mut [u8]) -> Walk
+    pub fn bytes_line(self, place: usize, span: Span, src: &[u8], out: &mut [u8]) -> Walk
         requires { ⌜ (lenOf span ≤ 0x10001) × (startOf span + lenOf span ≤ length (now src)) ⌝ }
         ensures { λ r. ⌜ here r (now (out .exit)) ≡ putLine (spanLine place (startOf span) (lenOf span) (now (src .entry))) (here self (now (out .entry))) ⌝ }
     {
@@ -65,7 +58,7 @@ impl Walk {
     }
 
     // On to the place behind the field.
-    pub(crate) fn to_place(self, end: usize) -> Walk
+    pub fn to_place(self, end: usize) -> Walk
         ensures { λ r. ⌜ r ≡ toPlace end self ⌝ }
     {
         if self.mode == LINES {

@@ -35,7 +35,7 @@ fn due_size(chosen: Choice) -> u16
 }
 
 // The bytes of a span of src at the place `at` of out, and the place behind them.
-pub(crate) fn put_part(span: Span, src: &[u8], out: &mut [u8], at: usize) -> usize
+pub fn put_part(span: Span, src: &[u8], out: &mut [u8], at: usize) -> usize
     ensures { λ r. ⌜ Moves (cut (now (src .entry)) (startOf span) (lenOf span) at) at (now (out .entry)) r (now (out .exit)) ⌝ }
 {
     match put_span(span, src, out, at) {
@@ -80,7 +80,7 @@ fn judge_buffer(limit: u16, span: Span, src: &[u8], at: usize) -> Measure
 }
 
 // What judging answered, as a walk.
-pub(crate) fn judged(m: Measure) -> Walk
+pub fn judged(m: Measure) -> Walk
     ensures { λ r. ⌜ r ≡ judged (measureAnswer m) ⌝ }
 {
     match m {

@@ -8,20 +8,20 @@ ghost use Rattle.wire.specs.Answers.{measureAnswer};
 ghost use Rattle.steps.specs.Walks.{judging, putting, seeking, lining, listSeeking, finding, refusing, readyWalk, faultOf, walkAnswer};
 
 // The modes of a walk. Behind FOUND come the refusals: FOUND and the number of the fault.
-pub(crate) const JUDGE: usize = 0;
+pub const JUDGE: usize = 0;
 
-pub(crate) const PUT: usize = 1;
+pub const PUT: usize = 1;
 
 pub(crate) const SEEK: usize = 2;
 
-pub(crate) const LINES: usize = 3;
+pub const LINES: usize = 3;
 
-pub(crate) const LIST: usize = 4;
+pub const LIST: usize = 4;
 
-pub(crate) const FOUND: usize = 5;
+pub const FOUND: usize = 5;
 
 // Behind so many bytes nothing is judged or listed; no record is so long.
-pub(crate) const FAR: usize = 0x1000000;
+pub const FAR: usize = 0x1000000;
 
 pub struct Walk {
     pub mode: usize,
@@ -85,7 +85,7 @@ pub fn list_seeking() -> Walk
 }
 
 // What was sought is found.
-pub(crate) fn finding(span: Span) -> Walk
+pub fn finding(span: Span) -> Walk
     ensures { λ r. ⌜ r ≡ finding span ⌝ }
 {
     Walk {

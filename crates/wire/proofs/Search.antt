@@ -12,6 +12,7 @@ use Rattle.wire.specs.Layout.{Rule, Layout, stop, arm, number, buffer, o
 use Rattle.wire.specs.Reading.{Part, num, tag, span, Ans, found, Parsed, refused, parsed, next, also, field, read}
 use Rattle.wire.specs.Unions.{union, isArm, held}
 use Rattle.wire.proofs.Then.{both, behind, behind-none, behind-also, read-then}
+pub use borrow.Author.Needs.{needs}
 
 -- ---- what a callee answered
 

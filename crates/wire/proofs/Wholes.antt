@@ -11,6 +11,7 @@ use Rattle.wire.specs.Faults.{trailing}
 use Rattle.wire.specs.Layout.{Layout}
 use Rattle.wire.specs.Reading.{Part, Ans, found, refused, next, Parsed, parsed, left, read, readWhole, nothingBehind, endOf}
 use Rattle.wire.proofs.Steps.{found-same, found-refused}
+pub use borrow.Author.Needs.{needs}
 
 -- ---- whether anything is left
 

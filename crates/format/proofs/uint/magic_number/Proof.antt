@@ -1,6 +1,5 @@
 -- The test is the rule of the field. Assumes nothing.
-use borrow.Author.Needs.{needs}
-use Rattle.wire.proofs.Search.{finds, refuses}
+use Rattle.wire.proofs.Search.{needs, finds, refuses}
 use Rattle.wire.specs.Answers.{numberAnswer}
 use Rattle.wire.proofs.Judged.{by-rule, judgements}
 use Rattle.format.proofs.Values.{magic-allowed, magic-not}

@@ -1,6 +1,5 @@
 -- No kind first, and then the size. Assumes nothing.
-use borrow.Author.Needs.{needs}
-use Rattle.wire.proofs.Search.{via}
+use Rattle.wire.proofs.Search.{needs, via}
 use Rattle.listing.proofs.Deposits.{no-kind-unread, kind-unread}
 use Rattle.listing.proofs.deposit.refused_unread.Tie as tie
 

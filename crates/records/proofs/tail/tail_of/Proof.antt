@@ -5,7 +5,6 @@ use native.Mathlib.Omega.{arith}
 use mathlib.Core.Path.{sym}
 use lib.ListN.{length, drop, length-drop, drop-of-length-le}
 use lib.Seq.{take-all}
-use Rattle.records.proofs.tail.tail_of.Statement.{statement}
 use Rattle.records.proofs.tail.tail_of.Tie as tie
 
 returns : tie.Need-returns
@@ -19,6 +18,6 @@ returns-2 c =
     let s = c .before .before .args .s .now in
     sym (drop-of-length-le s {i = c .before .before .args .end} (omega arith))
 
-pub tail-of-spec : {M : Type 1} → statement M
+pub tail-of-spec : {M : Type 1} → Rattle.records.proofs.tail.tail_of.Statement.statement M
 tail-of-spec = tie.close (tie.spec
     (search needs) (search needs) (search needs) returns (search needs) (search needs) (search needs) returns-2)

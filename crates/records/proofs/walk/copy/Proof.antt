@@ -1,7 +1,6 @@
 -- It is judged, and then put. Assumes nothing.
-use borrow.Author.Needs.{needs}
 use Rattle.wire.proofs.Stand.{bytes-of}
-use Rattle.records.proofs.Walked.{copied}
+use Rattle.records.proofs.Walked.{needs, copied}
 use Rattle.records.proofs.walk.copy.Tie as tie
 
 pub copy-spec : {M : Type 1} → Rattle.records.proofs.walk.copy.Statement.statement M

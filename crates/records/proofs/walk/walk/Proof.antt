@@ -1,9 +1,8 @@
 -- Each number has its kind; any other is none. Assumes nothing.
-use borrow.Author.Needs.{needs}
 use mathlib.Core.Path.{ap, _∙_}
 use Rattle.wire.specs.Faults.{badKind}
 use Rattle.format.specs.Kinds.{kinds, layoutOf}
-use Rattle.records.proofs.ByKind.{none-of}
+use Rattle.records.proofs.ByKind.{needs, none-of}
 use Rattle.records.proofs.Walked.{kind-walked, no-kind-walked}
 use Rattle.records.proofs.walk.walk.Tie as tie
 

@@ -1,7 +1,6 @@
 -- Nothing is left exactly where the input ends by then. Assumes nothing.
-use borrow.Author.Needs.{needs}
 use native.Mathlib.Omega.{arith}
-use Rattle.wire.proofs.Wholes.{none-left, some-left}
+use Rattle.wire.proofs.Wholes.{needs, none-left, some-left}
 use Rattle.wire.proofs.read.nothing_behind.Statement.{statement}
 use Rattle.wire.proofs.read.nothing_behind.Tie as tie
 

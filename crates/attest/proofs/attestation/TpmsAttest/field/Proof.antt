@@ -1,6 +1,5 @@
 -- The field that was sought. Assumes nothing.
-use borrow.Author.Needs.{needs}
-use Rattle.steps.proofs.Found.{sought-part}
+use Rattle.steps.proofs.Found.{needs, sought-part}
 use Rattle.attest.proofs.attestation.TpmsAttest.field.Tie as tie
 
 pub field-spec : {M : Type 1} → Rattle.attest.proofs.attestation.TpmsAttest.field.Statement.statement M

@@ -1,6 +1,5 @@
 -- It is judged, and then put. Assumes nothing.
-use borrow.Author.Needs.{needs}
-use Rattle.steps.proofs.Marshalled.{marshalled}
+use Rattle.steps.proofs.Marshalled.{needs, marshalled}
 use Rattle.attest.proofs.attestation.TpmsAttest.marshal.Tie as tie
 
 pub marshal-spec : {M : Type 1} → Rattle.attest.proofs.attestation.TpmsAttest.marshal.Statement.statement M

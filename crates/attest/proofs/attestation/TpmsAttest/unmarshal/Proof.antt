@@ -1,14 +1,12 @@
 -- Field by field, what is left to read is the rest of the layout. Assumes nothing.
-use borrow.Author.Needs.{needs}
 use mathlib.Core.Path.{_∙_}
 use Rattle.wire.specs.Answers.{spanAnswer}
-use Rattle.wire.proofs.Search.{shown, refuses, by-number, by-buffer, rests}
+use Rattle.wire.proofs.Search.{needs, shown, refuses, by-number, by-buffer, rests}
 use Rattle.format.specs.Kinds.{tpmsAttest}
 use Rattle.format.specs.Answers.{uint32Answer, tpmStAnswer}
-use Rattle.attest.proofs.attestation.TpmsAttest.unmarshal.Statement.{statement}
 use Rattle.attest.proofs.attestation.TpmsAttest.unmarshal.Tie as tie
 
-pub unmarshal-spec : {M : Type 1} → statement M
+pub unmarshal-spec : {M : Type 1} → Rattle.attest.proofs.attestation.TpmsAttest.unmarshal.Statement.statement M
 unfolding tpmsAttest
 unmarshal-spec = tie.close (tie.spec
     (search needs) (search needs) (search needs) (λ c. refuses (search (by-number uint32Answer, rests))) (search needs) (search needs) (search needs)

@@ -1,6 +1,5 @@
 -- The field that was sought. Assumes nothing.
-use borrow.Author.Needs.{needs}
-use Rattle.steps.proofs.Found.{sought-part}
+use Rattle.steps.proofs.Found.{needs, sought-part}
 use Rattle.attest.proofs.list.TpmlPcrSelection.field.Tie as tie
 
 pub field-spec : {M : Type 1} → Rattle.attest.proofs.list.TpmlPcrSelection.field.Statement.statement M

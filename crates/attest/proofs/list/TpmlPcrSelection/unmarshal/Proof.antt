@@ -10,7 +10,6 @@ use Rattle.wire.proofs.Rest.{told}
 use Rattle.wire.proofs.Leaves.{read-stop, list-found, list-refused}
 use Rattle.format.specs.declared.list.ListOf.the-variants.{PcrSelection}
 use Rattle.format.specs.Kinds.{itemLayout, mostItems, tpmlPcrSelection}
-use Rattle.attest.proofs.list.TpmlPcrSelection.unmarshal.Statement.{statement}
 use Rattle.attest.proofs.list.TpmlPcrSelection.unmarshal.Tie as tie
 
 sub-len : tie.Need-sub-len
@@ -26,5 +25,5 @@ returns-2 : tie.Need-returns-2
 unfolding tpmlPcrSelection
 returns-2 c = sym (list-refused (mostItems PcrSelection) (itemLayout PcrSelection) stop _ _ (told measureAnswer (c .before .f .given .1) (c .before .before .before .list-end .ensures)))
 
-pub unmarshal-spec : {M : Type 1} → statement M
+pub unmarshal-spec : {M : Type 1} → Rattle.attest.proofs.list.TpmlPcrSelection.unmarshal.Statement.statement M
 unmarshal-spec = tie.close (tie.spec (search needs) (search needs) sub-len (search needs) (search needs) returns returns-2)

@@ -1,13 +1,11 @@
 -- Field by field, what is left to read is the rest of the layout. Assumes nothing.
-use borrow.Author.Needs.{needs}
-use Rattle.wire.proofs.Search.{finds, refuses, by-number, by-buffer, by-whole, rests}
+use Rattle.wire.proofs.Search.{needs, finds, refuses, by-number, by-buffer, by-whole, rests}
 use Rattle.format.specs.Kinds.{tpmsCommandAuditInfo}
 use Rattle.wire.specs.Answers.{numberAnswer, spanAnswer}
 use Rattle.format.specs.Answers.{tpmAlgIdAnswer}
-use Rattle.attest.proofs.tpms.TpmsCommandAuditInfo.unmarshal.Statement.{statement}
 use Rattle.attest.proofs.tpms.TpmsCommandAuditInfo.unmarshal.Tie as tie
 
-pub unmarshal-spec : {M : Type 1} → statement M
+pub unmarshal-spec : {M : Type 1} → Rattle.attest.proofs.tpms.TpmsCommandAuditInfo.unmarshal.Statement.statement M
 unfolding tpmsCommandAuditInfo
 unmarshal-spec = tie.close (tie.spec
     (search needs) (search needs) (search needs) (λ c. refuses (search (by-number numberAnswer, rests))) (search needs) (search needs)

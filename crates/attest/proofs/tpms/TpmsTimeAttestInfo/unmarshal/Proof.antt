@@ -1,13 +1,11 @@
 -- Field by field, what is left to read is the rest of the layout. Assumes nothing.
-use borrow.Author.Needs.{needs}
-use Rattle.wire.proofs.Search.{finds, refuses, by-then, by-whole, rests}
+use Rattle.wire.proofs.Search.{needs, finds, refuses, by-then, by-whole, rests}
 use Rattle.format.specs.Kinds.{tpmsTimeAttestInfo}
 use Rattle.wire.specs.Answers.{numberAnswer}
 use Rattle.attest.specs.Answers.{tpmsTimeInfoAnswer}
-use Rattle.attest.proofs.tpms.TpmsTimeAttestInfo.unmarshal.Statement.{statement}
 use Rattle.attest.proofs.tpms.TpmsTimeAttestInfo.unmarshal.Tie as tie
 
-pub unmarshal-spec : {M : Type 1} → statement M
+pub unmarshal-spec : {M : Type 1} → Rattle.attest.proofs.tpms.TpmsTimeAttestInfo.unmarshal.Statement.statement M
 unfolding tpmsTimeAttestInfo
 unmarshal-spec = tie.close (tie.spec
     (search needs) (search needs) (search needs) (λ c. refuses (search (by-then tpmsTimeInfoAnswer, rests))) (search needs) (search needs)

@@ -1,7 +1,6 @@
 -- The selector is held against the arm's own code. Assumes nothing.
-use borrow.Author.Needs.{needs}
 use Rattle.format.specs.Kinds.{tpmuAttestTable, tpmuAttestArm}
-use Rattle.steps.proofs.Matches.{by-code}
+use Rattle.steps.proofs.Matches.{needs, by-code}
 use Rattle.attest.specs.Parts.{tpmuAttestParts}
 use Rattle.attest.proofs.tpmu.TpmuAttest.matches_tag.Tie as tie
 

@@ -1,7 +1,6 @@
 -- The fields of the arm that is held, behind where it is due. Assumes nothing.
-use borrow.Author.Needs.{needs}
 use Rattle.format.specs.Kinds.{tpmuAttestArm, tpmuAttestBody, tpmuAttest}
-use Rattle.steps.proofs.Search.{by-arm-lists, walking}
+use Rattle.steps.proofs.Search.{needs, by-arm-lists, walking}
 use Rattle.attest.specs.Parts.{tpmuAttestParts, tpmuAttestLists}
 use Rattle.attest.proofs.tpmu.TpmuAttest.walk_tagged.Tie as tie
 

@@ -1,6 +1,5 @@
 -- The field that was sought. Assumes nothing.
-use borrow.Author.Needs.{needs}
-use Rattle.steps.proofs.Found.{sought-part}
+use Rattle.steps.proofs.Found.{needs, sought-part}
 use Rattle.ciphers.proofs.tpmt.TpmtHa.field.Tie as tie
 
 pub field-spec : {M : Type 1} → Rattle.ciphers.proofs.tpmt.TpmtHa.field.Statement.statement M

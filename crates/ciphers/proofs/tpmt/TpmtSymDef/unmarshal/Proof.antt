@@ -1,13 +1,11 @@
 -- Field by field, what is left to read is the rest of the layout. Assumes nothing.
-use borrow.Author.Needs.{needs}
-use Rattle.wire.proofs.Search.{finds, refuses, by-number, by-then, by-whole, rests}
+use Rattle.wire.proofs.Search.{needs, finds, refuses, by-number, by-then, by-whole, rests}
 use Rattle.format.specs.Kinds.{tpmtSymDef}
 use Rattle.format.specs.Answers.{tpmAlgIdAnswer}
 use Rattle.ciphers.specs.Answers.{tpmuSymKeyBitsAnswer, tpmuSymModeAnswer}
-use Rattle.ciphers.proofs.tpmt.TpmtSymDef.unmarshal.Statement.{statement}
 use Rattle.ciphers.proofs.tpmt.TpmtSymDef.unmarshal.Tie as tie
 
-pub unmarshal-spec : {M : Type 1} → statement M
+pub unmarshal-spec : {M : Type 1} → Rattle.ciphers.proofs.tpmt.TpmtSymDef.unmarshal.Statement.statement M
 unfolding tpmtSymDef
 unmarshal-spec = tie.close (tie.spec
     (search needs) (search needs) (search needs) (λ c. refuses (search (by-number tpmAlgIdAnswer, rests))) (search needs) (search needs)

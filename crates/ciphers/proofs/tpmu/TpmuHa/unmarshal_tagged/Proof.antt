@@ -1,14 +1,12 @@
 -- A digest is as long as its algorithm has it. Assumes nothing.
-use borrow.Author.Needs.{needs}
 use Rattle.wire.specs.Answers.{spanAnswer}
-use Rattle.wire.proofs.Search.{finds, refuses, known, by-whole, chosen-by, no-arm, rests}
+use Rattle.wire.proofs.Search.{needs, finds, refuses, known, by-whole, chosen-by, no-arm, rests}
 use Rattle.format.specs.Answers.{digestChoice}
 use Rattle.format.specs.Kinds.{tpmuHaArm, tpmuHaBody, tpmuHa}
 use Rattle.ciphers.proofs.Arms.{digest-found, digest-held}
-use Rattle.ciphers.proofs.tpmu.TpmuHa.unmarshal_tagged.Statement.{statement}
 use Rattle.ciphers.proofs.tpmu.TpmuHa.unmarshal_tagged.Tie as tie
 
-pub unmarshal-tagged-spec : {M : Type 1} → statement M
+pub unmarshal-tagged-spec : {M : Type 1} → Rattle.ciphers.proofs.tpmu.TpmuHa.unmarshal_tagged.Statement.statement M
 unfolding tpmuHa
 unmarshal-tagged-spec = tie.close (tie.spec
     (search needs) (search needs) (search needs) (search needs) (search needs) (search needs) (search needs) (search needs) (search needs)

@@ -1,7 +1,6 @@
 -- The selector is held against the arm's own code. Assumes nothing.
-use borrow.Author.Needs.{needs}
 use Rattle.format.specs.Kinds.{tpmuSymKeyBitsTable, tpmuSymKeyBitsArm}
-use Rattle.steps.proofs.Matches.{by-code}
+use Rattle.steps.proofs.Matches.{needs, by-code}
 use Rattle.ciphers.specs.Parts.{tpmuSymKeyBitsParts}
 use Rattle.ciphers.proofs.tpmu.TpmuSymKeyBits.matches_tag.Tie as tie
 

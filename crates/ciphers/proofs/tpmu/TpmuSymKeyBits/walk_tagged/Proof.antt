@@ -1,7 +1,6 @@
 -- The fields of the arm that is held, behind where it is due. Assumes nothing.
-use borrow.Author.Needs.{needs}
 use Rattle.format.specs.Kinds.{tpmuSymKeyBitsArm, tpmuSymKeyBitsBody, tpmuSymKeyBits}
-use Rattle.steps.proofs.Search.{by-arm, walking}
+use Rattle.steps.proofs.Search.{needs, by-arm, walking}
 use Rattle.ciphers.specs.Parts.{tpmuSymKeyBitsParts}
 use Rattle.ciphers.proofs.tpmu.TpmuSymKeyBits.walk_tagged.Tie as tie
 

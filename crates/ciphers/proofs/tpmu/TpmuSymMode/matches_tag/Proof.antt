@@ -1,7 +1,6 @@
 -- The selector is held against the arm's own code. Assumes nothing.
-use borrow.Author.Needs.{needs}
 use Rattle.format.specs.Kinds.{tpmuSymModeTable, tpmuSymModeArm}
-use Rattle.steps.proofs.Matches.{by-code}
+use Rattle.steps.proofs.Matches.{needs, by-code}
 use Rattle.ciphers.specs.Parts.{tpmuSymModeParts}
 use Rattle.ciphers.proofs.tpmu.TpmuSymMode.matches_tag.Tie as tie
 

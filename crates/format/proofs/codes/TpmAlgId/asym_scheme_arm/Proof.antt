@@ -8,7 +8,6 @@ use Rattle.wire.specs.declared.choice.Choice.the-variants.{The}
 use Rattle.format.specs.Codes.{null, rsaes, rsassa, rsapss, ecmqv}
 use Rattle.format.specs.Kinds.{tpmuAsymSchemeTable, tpmuAsymSchemeArm, empty, hash}
 use Rattle.format.proofs.Choices.{chosen-among, chosen-from, none-outside}
-use Rattle.format.proofs.codes.TpmAlgId.asym_scheme_arm.Statement.{statement}
 use Rattle.format.proofs.codes.TpmAlgId.asym_scheme_arm.Tie as tie
 
 abbrev empties : List ℕ
@@ -17,28 +16,14 @@ empties = null ∷ rsaes ∷ []
 abbrev single : List ℕ
 single = rsassa ∷ []
 
-returns : tie.Need-returns
+pub asym-scheme-arm-spec : {M : Type 1} → Rattle.format.proofs.codes.TpmAlgId.asym_scheme_arm.Statement.statement M
 unfolding tpmuAsymSchemeArm
-returns c = chosen-among (λ v. The empty) tpmuAsymSchemeTable empties refl _ (c .match .keys1)
-
-returns-2 : tie.Need-returns-2
-unfolding tpmuAsymSchemeArm
-returns-2 c = none-outside tpmuAsymSchemeTable (single ∷ empties ∷ []) rsapss ecmqv refl _ (c .before .match .rest) (λ h. omega arith)
-
-returns-3 : tie.Need-returns-3
-unfolding tpmuAsymSchemeArm
-returns-3 c = none-outside tpmuAsymSchemeTable (single ∷ empties ∷ []) rsapss ecmqv refl _ (c .before .before .match .rest) (λ h. omega arith)
-
-returns-4 : tie.Need-returns-4
-unfolding tpmuAsymSchemeArm
-returns-4 c = chosen-among (λ v. The hash) tpmuAsymSchemeTable single refl _ (c .match .keys2)
-
-returns-5 : tie.Need-returns-5
-unfolding tpmuAsymSchemeArm
-returns-5 c =
+asym-scheme-arm-spec = tie.close (tie.spec
+    (λ c. chosen-among (λ v. The empty) tpmuAsymSchemeTable empties refl _ (c .match .keys1))
+    (λ c. none-outside tpmuAsymSchemeTable (single ∷ empties ∷ []) rsapss ecmqv refl _ (c .before .match .rest) (λ h. omega arith))
+    (λ c. none-outside tpmuAsymSchemeTable (single ∷ empties ∷ []) rsapss ecmqv refl _ (c .before .before .match .rest) (λ h. omega arith))
+    (λ c. chosen-among (λ v. The hash) tpmuAsymSchemeTable single refl _ (c .match .keys2))
+    (λ c.
     let v = c .before .before .before .args .self .0 in
     let other : v ≡ rsaes → ⊥ = λ e. c .before .before .match .rest .0 .1 (inr e) in
-    chosen-from (λ v. The hash) tpmuAsymSchemeTable 8 rsapss refl v (omega arith) (omega arith)
-
-pub asym-scheme-arm-spec : {M : Type 1} → statement M
-asym-scheme-arm-spec = tie.close (tie.spec returns returns-2 returns-3 returns-4 returns-5)
+    chosen-from (λ v. The hash) tpmuAsymSchemeTable 8 rsapss refl v (omega arith) (omega arith)))

@@ -6,7 +6,6 @@ use Rattle.wire.specs.declared.choice.Choice.the-variants.{The}
 use Rattle.format.specs.Codes.{sha1, shake256-192, sha256, sm3-256, sha3-256, shake256-256, sha384, sha3-384, sha512, sha3-512, shake256-512, null}
 use Rattle.format.specs.Kinds.{tpmuHaTable, tpmuHaArm, digestOf, empty}
 use Rattle.format.proofs.Choices.{chosen-among, none-unmatched}
-use Rattle.format.proofs.codes.TpmAlgId.digest_len.Statement.{statement}
 use Rattle.format.proofs.codes.TpmAlgId.digest_len.Tie as tie
 
 abbrev of20 : List ℕ
@@ -24,33 +23,13 @@ of48 = sha384 ∷ sha3-384 ∷ []
 abbrev of64 : List ℕ
 of64 = sha512 ∷ sha3-512 ∷ shake256-512 ∷ []
 
-returns : tie.Need-returns
+pub digest-len-spec : {M : Type 1} → Rattle.format.proofs.codes.TpmAlgId.digest_len.Statement.statement M
 unfolding tpmuHaArm
-returns c = chosen-among (λ v. The (digestOf 20)) tpmuHaTable of20 refl _ (c .match .keys1)
-
-returns-2 : tie.Need-returns-2
-unfolding tpmuHaArm
-returns-2 c = chosen-among (λ v. The (digestOf 24)) tpmuHaTable of24 refl _ (c .match .keys2)
-
-returns-3 : tie.Need-returns-3
-unfolding tpmuHaArm
-returns-3 c = chosen-among (λ v. The (digestOf 32)) tpmuHaTable of32 refl _ (c .match .keys3)
-
-returns-4 : tie.Need-returns-4
-unfolding tpmuHaArm
-returns-4 c = chosen-among (λ v. The (digestOf 48)) tpmuHaTable of48 refl _ (c .match .keys4)
-
-returns-5 : tie.Need-returns-5
-unfolding tpmuHaArm
-returns-5 c = chosen-among (λ v. The (digestOf 64)) tpmuHaTable of64 refl _ (c .match .keys5)
-
-returns-6 : tie.Need-returns-6
-unfolding tpmuHaArm
-returns-6 c = chosen-among (λ v. The empty) tpmuHaTable (null ∷ []) refl _ (c .match .keys6)
-
-returns-7 : tie.Need-returns-7
-unfolding tpmuHaArm
-returns-7 c = none-unmatched tpmuHaTable ((null ∷ []) ∷ of64 ∷ of48 ∷ of32 ∷ of24 ∷ of20 ∷ []) refl _ (c .match .rest)
-
-pub digest-len-spec : {M : Type 1} → statement M
-digest-len-spec = tie.close (tie.spec returns returns-2 returns-3 returns-4 returns-5 returns-6 returns-7)
+digest-len-spec = tie.close (tie.spec
+    (λ c. chosen-among (λ v. The (digestOf 20)) tpmuHaTable of20 refl _ (c .match .keys1))
+    (λ c. chosen-among (λ v. The (digestOf 24)) tpmuHaTable of24 refl _ (c .match .keys2))
+    (λ c. chosen-among (λ v. The (digestOf 32)) tpmuHaTable of32 refl _ (c .match .keys3))
+    (λ c. chosen-among (λ v. The (digestOf 48)) tpmuHaTable of48 refl _ (c .match .keys4))
+    (λ c. chosen-among (λ v. The (digestOf 64)) tpmuHaTable of64 refl _ (c .match .keys5))
+    (λ c. chosen-among (λ v. The empty) tpmuHaTable (null ∷ []) refl _ (c .match .keys6))
+    (λ c. none-unmatched tpmuHaTable ((null ∷ []) ∷ of64 ∷ of48 ∷ of32 ∷ of24 ∷ of20 ∷ []) refl _ (c .match .rest)))

@@ -1,11 +1,10 @@
 -- The arm of a digest is one more than its length, which the table keeps under 65. Assumes nothing.
-use borrow.Author.Needs.{needs}
 use Prim.Native.Nat.{ℕ, suc, _+_, _<_}
 use mathlib.Core.Path.{_≡_, sym, ap, _∙_}
 use native.Mathlib.Numerals.{add-one}
 use native.Mathlib.Omega.{arith}
 use Rattle.wire.specs.declared.choice.Choice.the-variants.{The}
-use Rattle.wire.proofs.Search.{known}
+use Rattle.wire.proofs.Search.{needs, known}
 use Rattle.format.specs.declared.codes.DigestLen.{DigestLen}
 use Rattle.format.specs.Answers.{digestChoice}
 use Rattle.format.specs.Kinds.{tpmuHaArm}

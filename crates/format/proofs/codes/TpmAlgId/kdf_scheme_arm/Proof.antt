@@ -7,27 +7,15 @@ use Rattle.wire.specs.declared.choice.Choice.the-variants.{The}
 use Rattle.format.specs.Codes.{mgf1, null, kdf1-sp800-56a, kdf1-sp800-108}
 use Rattle.format.specs.Kinds.{tpmuKdfSchemeTable, tpmuKdfSchemeArm}
 use Rattle.format.proofs.Choices.{chosen-among, chosen-from, none-outside}
-use Rattle.format.proofs.codes.TpmAlgId.kdf_scheme_arm.Statement.{statement}
 use Rattle.format.proofs.codes.TpmAlgId.kdf_scheme_arm.Tie as tie
 
 abbrev single : List ℕ
 single = mgf1 ∷ null ∷ []
 
-returns : tie.Need-returns
+pub kdf-scheme-arm-spec : {M : Type 1} → Rattle.format.proofs.codes.TpmAlgId.kdf_scheme_arm.Statement.statement M
 unfolding tpmuKdfSchemeArm
-returns c = none-outside tpmuKdfSchemeTable (single ∷ []) kdf1-sp800-56a kdf1-sp800-108 refl _ (c .before .match .rest) (λ h. omega arith)
-
-returns-2 : tie.Need-returns-2
-unfolding tpmuKdfSchemeArm
-returns-2 c = none-outside tpmuKdfSchemeTable (single ∷ []) kdf1-sp800-56a kdf1-sp800-108 refl _ (c .before .before .match .rest) (λ h. omega arith)
-
-returns-3 : tie.Need-returns-3
-unfolding tpmuKdfSchemeArm
-returns-3 c = chosen-among The tpmuKdfSchemeTable single refl _ (c .match .keys1)
-
-returns-4 : tie.Need-returns-4
-unfolding tpmuKdfSchemeArm
-returns-4 c = chosen-from The tpmuKdfSchemeTable 3 kdf1-sp800-56a refl _ (omega arith) (omega arith)
-
-pub kdf-scheme-arm-spec : {M : Type 1} → statement M
-kdf-scheme-arm-spec = tie.close (tie.spec returns returns-2 returns-3 returns-4)
+kdf-scheme-arm-spec = tie.close (tie.spec
+    (λ c. none-outside tpmuKdfSchemeTable (single ∷ []) kdf1-sp800-56a kdf1-sp800-108 refl _ (c .before .match .rest) (λ h. omega arith))
+    (λ c. none-outside tpmuKdfSchemeTable (single ∷ []) kdf1-sp800-56a kdf1-sp800-108 refl _ (c .before .before .match .rest) (λ h. omega arith))
+    (λ c. chosen-among The tpmuKdfSchemeTable single refl _ (c .match .keys1))
+    (λ c. chosen-from The tpmuKdfSchemeTable 3 kdf1-sp800-56a refl _ (omega arith) (omega arith)))

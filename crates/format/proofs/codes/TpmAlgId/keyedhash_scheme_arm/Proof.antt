@@ -6,19 +6,13 @@ use Rattle.wire.specs.declared.choice.Choice.the-variants.{The}
 use Rattle.format.specs.Codes.{hmac, xor, null}
 use Rattle.format.specs.Kinds.{tpmuKeyedhashSchemeTable, tpmuKeyedhashSchemeArm}
 use Rattle.format.proofs.Choices.{chosen-among, none-unmatched}
-use Rattle.format.proofs.codes.TpmAlgId.keyedhash_scheme_arm.Statement.{statement}
 use Rattle.format.proofs.codes.TpmAlgId.keyedhash_scheme_arm.Tie as tie
 
 abbrev pattern : List ℕ
 pattern = hmac ∷ xor ∷ null ∷ []
 
-returns : tie.Need-returns
+pub keyedhash-scheme-arm-spec : {M : Type 1} → Rattle.format.proofs.codes.TpmAlgId.keyedhash_scheme_arm.Statement.statement M
 unfolding tpmuKeyedhashSchemeArm
-returns c = chosen-among The tpmuKeyedhashSchemeTable pattern refl _ (c .match .keys1)
-
-returns-2 : tie.Need-returns-2
-unfolding tpmuKeyedhashSchemeArm
-returns-2 c = none-unmatched tpmuKeyedhashSchemeTable (pattern ∷ []) refl _ (c .match .rest)
-
-pub keyedhash-scheme-arm-spec : {M : Type 1} → statement M
-keyedhash-scheme-arm-spec = tie.close (tie.spec returns returns-2)
+keyedhash-scheme-arm-spec = tie.close (tie.spec
+    (λ c. chosen-among The tpmuKeyedhashSchemeTable pattern refl _ (c .match .keys1))
+    (λ c. none-unmatched tpmuKeyedhashSchemeTable (pattern ∷ []) refl _ (c .match .rest)))

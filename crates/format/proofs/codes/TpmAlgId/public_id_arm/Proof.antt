@@ -2,11 +2,8 @@
 use borrow.Author.Needs.{needs}
 use mathlib.Core.Path.{sym, _∙_}
 use Rattle.format.proofs.Tables.{id-arm}
-use Rattle.format.proofs.codes.TpmAlgId.public_id_arm.Statement.{statement}
 use Rattle.format.proofs.codes.TpmAlgId.public_id_arm.Tie as tie
 
-returns : tie.Need-returns
-returns c = c .public-parms-arm .ensures ∙ sym (id-arm _)
-
-pub public-id-arm-spec : {M : Type 1} → statement M
-public-id-arm-spec = tie.close (tie.spec (search needs) returns)
+pub public-id-arm-spec : {M : Type 1} → Rattle.format.proofs.codes.TpmAlgId.public_id_arm.Statement.statement M
+public-id-arm-spec = tie.close (tie.spec
+    (search needs) (λ c. c .public-parms-arm .ensures ∙ sym (id-arm _)))

@@ -6,19 +6,13 @@ use Rattle.wire.specs.declared.choice.Choice.the-variants.{The}
 use Rattle.format.specs.Codes.{rsa, keyedHash, null, ecc, symCipher}
 use Rattle.format.specs.Kinds.{tpmuPublicParmsTable, tpmuPublicParmsArm}
 use Rattle.format.proofs.Choices.{chosen-among, none-unmatched}
-use Rattle.format.proofs.codes.TpmAlgId.public_parms_arm.Statement.{statement}
 use Rattle.format.proofs.codes.TpmAlgId.public_parms_arm.Tie as tie
 
 abbrev pattern : List ℕ
 pattern = rsa ∷ keyedHash ∷ null ∷ ecc ∷ symCipher ∷ []
 
-returns : tie.Need-returns
+pub public-parms-arm-spec : {M : Type 1} → Rattle.format.proofs.codes.TpmAlgId.public_parms_arm.Statement.statement M
 unfolding tpmuPublicParmsArm
-returns c = chosen-among The tpmuPublicParmsTable pattern refl _ (c .match .keys1)
-
-returns-2 : tie.Need-returns-2
-unfolding tpmuPublicParmsArm
-returns-2 c = none-unmatched tpmuPublicParmsTable (pattern ∷ []) refl _ (c .match .rest)
-
-pub public-parms-arm-spec : {M : Type 1} → statement M
-public-parms-arm-spec = tie.close (tie.spec returns returns-2)
+public-parms-arm-spec = tie.close (tie.spec
+    (λ c. chosen-among The tpmuPublicParmsTable pattern refl _ (c .match .keys1))
+    (λ c. none-unmatched tpmuPublicParmsTable (pattern ∷ []) refl _ (c .match .rest)))

@@ -6,19 +6,13 @@ use Rattle.wire.specs.declared.choice.Choice.the-variants.{The}
 use Rattle.format.specs.Codes.{aes, xor, null, sm4, camellia}
 use Rattle.format.specs.Kinds.{tpmuSymKeyBitsTable, tpmuSymKeyBitsArm}
 use Rattle.format.proofs.Choices.{chosen-among, none-unmatched}
-use Rattle.format.proofs.codes.TpmAlgId.sym_key_bits_arm.Statement.{statement}
 use Rattle.format.proofs.codes.TpmAlgId.sym_key_bits_arm.Tie as tie
 
 abbrev pattern : List ℕ
 pattern = aes ∷ xor ∷ null ∷ sm4 ∷ camellia ∷ []
 
-returns : tie.Need-returns
+pub sym-key-bits-arm-spec : {M : Type 1} → Rattle.format.proofs.codes.TpmAlgId.sym_key_bits_arm.Statement.statement M
 unfolding tpmuSymKeyBitsArm
-returns c = chosen-among The tpmuSymKeyBitsTable pattern refl _ (c .match .keys1)
-
-returns-2 : tie.Need-returns-2
-unfolding tpmuSymKeyBitsArm
-returns-2 c = none-unmatched tpmuSymKeyBitsTable (pattern ∷ []) refl _ (c .match .rest)
-
-pub sym-key-bits-arm-spec : {M : Type 1} → statement M
-sym-key-bits-arm-spec = tie.close (tie.spec returns returns-2)
+sym-key-bits-arm-spec = tie.close (tie.spec
+    (λ c. chosen-among The tpmuSymKeyBitsTable pattern refl _ (c .match .keys1))
+    (λ c. none-unmatched tpmuSymKeyBitsTable (pattern ∷ []) refl _ (c .match .rest)))

@@ -5,16 +5,11 @@ use Rattle.wire.specs.declared.choice.Choice.the-variants.{The}
 use Rattle.format.specs.Codes.{attestations, isAttestation}
 use Rattle.format.specs.Kinds.{tpmuAttestTable, tpmuAttestArm}
 use Rattle.format.proofs.Choices.{chosen-listed, none-listed}
-use Rattle.format.proofs.codes.TpmSt.attest_arm.Statement.{statement}
 use Rattle.format.proofs.codes.TpmSt.attest_arm.Tie as tie
 
-returns : tie.Need-returns
+pub attest-arm-spec : {M : Type 1} → Rattle.format.proofs.codes.TpmSt.attest_arm.Statement.statement M
 unfolding tpmuAttestArm isAttestation attestations
-returns c = chosen-listed The tpmuAttestTable attestations refl (c .before .before .args .self .0) (sym (c .before .is-listed .ensures) ∙ c .if1 .taken)
-
-returns-2 : tie.Need-returns-2
-unfolding tpmuAttestArm isAttestation attestations
-returns-2 c = none-listed tpmuAttestTable attestations refl (c .before .before .args .self .0) (sym (c .before .is-listed .ensures) ∙ c .if1 .left)
-
-pub attest-arm-spec : {M : Type 1} → statement M
-attest-arm-spec = tie.close (tie.spec (search needs) returns returns-2)
+attest-arm-spec = tie.close (tie.spec
+    (search needs)
+    (λ c. chosen-listed The tpmuAttestTable attestations refl (c .before .before .args .self .0) (sym (c .before .is-listed .ensures) ∙ c .if1 .taken))
+    (λ c. none-listed tpmuAttestTable attestations refl (c .before .before .args .self .0) (sym (c .before .is-listed .ensures) ∙ c .if1 .left)))

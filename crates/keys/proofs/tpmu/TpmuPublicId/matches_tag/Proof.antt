@@ -1,7 +1,6 @@
 -- The selector is held against the arm's own code. Assumes nothing.
-use borrow.Author.Needs.{needs}
 use Rattle.format.specs.Kinds.{tpmuPublicIdTable, tpmuPublicIdArm}
-use Rattle.steps.proofs.Matches.{by-code}
+use Rattle.steps.proofs.Matches.{needs, by-code}
 use Rattle.keys.specs.Parts.{tpmuPublicIdParts}
 use Rattle.keys.proofs.tpmu.TpmuPublicId.matches_tag.Tie as tie
 

@@ -1,7 +1,6 @@
 -- The fields of the arm that is held, behind where it is due. Assumes nothing.
-use borrow.Author.Needs.{needs}
 use Rattle.format.specs.Kinds.{tpmuPublicIdArm, tpmuPublicIdBody, tpmuPublicId}
-use Rattle.steps.proofs.Search.{by-arm, walking}
+use Rattle.steps.proofs.Search.{needs, by-arm, walking}
 use Rattle.keys.specs.Parts.{tpmuPublicIdParts}
 use Rattle.keys.proofs.tpmu.TpmuPublicId.walk_tagged.Tie as tie
 

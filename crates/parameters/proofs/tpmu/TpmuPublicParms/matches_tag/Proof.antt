@@ -1,7 +1,6 @@
 -- The selector is held against the arm's own code. Assumes nothing.
-use borrow.Author.Needs.{needs}
 use Rattle.format.specs.Kinds.{tpmuPublicParmsTable, tpmuPublicParmsArm}
-use Rattle.steps.proofs.Matches.{by-code}
+use Rattle.steps.proofs.Matches.{needs, by-code}
 use Rattle.parameters.specs.Parts.{tpmuPublicParmsParts}
 use Rattle.parameters.proofs.tpmu.TpmuPublicParms.matches_tag.Tie as tie
 

@@ -1,7 +1,6 @@
 -- The fields of the arm that is held, behind where it is due. Assumes nothing.
-use borrow.Author.Needs.{needs}
 use Rattle.format.specs.Kinds.{tpmuPublicParmsArm, tpmuPublicParmsBody, tpmuPublicParms}
-use Rattle.steps.proofs.Search.{by-arm, walking}
+use Rattle.steps.proofs.Search.{needs, by-arm, walking}
 use Rattle.parameters.specs.Parts.{tpmuPublicParmsParts}
 use Rattle.parameters.proofs.tpmu.TpmuPublicParms.walk_tagged.Tie as tie
 

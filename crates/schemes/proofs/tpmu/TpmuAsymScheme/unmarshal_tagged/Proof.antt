@@ -1,13 +1,11 @@
 -- The arm that the selector chooses is empty or holds a hash code; or there is none. Assumes nothing.
-use borrow.Author.Needs.{needs}
-use Rattle.wire.proofs.Search.{finds, refuses, via, by-whole, chosen, no-arm, rests}
+use Rattle.wire.proofs.Search.{needs, finds, refuses, via, by-whole, chosen, no-arm, rests}
 use Rattle.format.specs.Kinds.{tpmuAsymSchemeArm, empty, hash, tpmuAsymSchemeBody, tpmuAsymScheme}
 use Rattle.schemes.specs.Answers.{tpmsSchemeHashAnswer}
 use Rattle.schemes.proofs.Arms.{asym-hash}
-use Rattle.schemes.proofs.tpmu.TpmuAsymScheme.unmarshal_tagged.Statement.{statement}
 use Rattle.schemes.proofs.tpmu.TpmuAsymScheme.unmarshal_tagged.Tie as tie
 
-pub unmarshal-tagged-spec : {M : Type 1} → statement M
+pub unmarshal-tagged-spec : {M : Type 1} → Rattle.schemes.proofs.tpmu.TpmuAsymScheme.unmarshal_tagged.Statement.statement M
 unfolding tpmuAsymScheme
 unmarshal-tagged-spec = tie.close (tie.spec
     (search needs) (search needs) (λ c. finds (search (chosen tpmuAsymSchemeArm tpmuAsymSchemeBody empty, rests))) (search needs) (search needs)

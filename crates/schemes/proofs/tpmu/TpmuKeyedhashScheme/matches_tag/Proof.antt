@@ -1,7 +1,6 @@
 -- The selector is held against the arm's own code. Assumes nothing.
-use borrow.Author.Needs.{needs}
 use Rattle.format.specs.Kinds.{tpmuKeyedhashSchemeTable, tpmuKeyedhashSchemeArm}
-use Rattle.steps.proofs.Matches.{by-code}
+use Rattle.steps.proofs.Matches.{needs, by-code}
 use Rattle.schemes.specs.Parts.{tpmuKeyedhashSchemeParts}
 use Rattle.schemes.proofs.tpmu.TpmuKeyedhashScheme.matches_tag.Tie as tie
 

@@ -1,13 +1,11 @@
 -- The arm that the selector chooses is empty, or holds a hash code as a hash or as Hmac; or there is none. Assumes nothing.
-use borrow.Author.Needs.{needs}
-use Rattle.wire.proofs.Search.{finds, via, by-whole, chosen, no-arm, rests}
+use Rattle.wire.proofs.Search.{needs, finds, via, by-whole, chosen, no-arm, rests}
 use Rattle.format.specs.Kinds.{tpmuSigSchemeArm, empty, hash, hmacHash, tpmuSigSchemeBody, tpmuSigScheme}
 use Rattle.schemes.specs.Answers.{tpmsSchemeHashAnswer}
 use Rattle.schemes.proofs.Arms.{sig-hmac, sig-refused}
-use Rattle.schemes.proofs.tpmu.TpmuSigScheme.unmarshal_tagged.Statement.{statement}
 use Rattle.schemes.proofs.tpmu.TpmuSigScheme.unmarshal_tagged.Tie as tie
 
-pub unmarshal-tagged-spec : {M : Type 1} → statement M
+pub unmarshal-tagged-spec : {M : Type 1} → Rattle.schemes.proofs.tpmu.TpmuSigScheme.unmarshal_tagged.Statement.statement M
 unfolding tpmuSigScheme
 unmarshal-tagged-spec = tie.close (tie.spec
     (search needs) (search needs) (λ c. finds (search (chosen tpmuSigSchemeArm tpmuSigSchemeBody empty, rests))) (search needs) (search needs)

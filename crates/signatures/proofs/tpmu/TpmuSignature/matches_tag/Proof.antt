@@ -1,7 +1,6 @@
 -- The selector is held against the arm's own code. Assumes nothing.
-use borrow.Author.Needs.{needs}
 use Rattle.format.specs.Kinds.{tpmuSignatureTable, tpmuSignatureArm}
-use Rattle.steps.proofs.Matches.{by-code}
+use Rattle.steps.proofs.Matches.{needs, by-code}
 use Rattle.signatures.specs.Parts.{tpmuSignatureParts}
 use Rattle.signatures.proofs.tpmu.TpmuSignature.matches_tag.Tie as tie
 

@@ -1,7 +1,6 @@
 -- The part of the span that was found. Assumes nothing.
-use borrow.Author.Needs.{needs}
 use Rattle.wire.specs.Fields.{partOf}
-use Rattle.steps.proofs.Found.{found-part, none-part}
+use Rattle.steps.proofs.Found.{needs, found-part, none-part}
 use Rattle.steps.proofs.walk.Walk.part.Tie as tie
 
 pub part-spec : {M : Type 1} → Rattle.steps.proofs.walk.Walk.part.Statement.statement M

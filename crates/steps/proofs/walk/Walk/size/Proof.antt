@@ -1,7 +1,6 @@
 -- The size of the span that was found. Assumes nothing.
-use borrow.Author.Needs.{needs}
 use Rattle.wire.specs.Fields.{sizeOf}
-use Rattle.steps.proofs.Found.{found-part, none-part}
+use Rattle.steps.proofs.Found.{needs, found-part, none-part}
 use Rattle.steps.proofs.walk.Walk.size.Tie as tie
 
 pub size-spec : {M : Type 1} → Rattle.steps.proofs.walk.Walk.size.Statement.statement M

@@ -1,7 +1,0 @@
--- The field that was sought. Assumes nothing.
-use borrow.Author.Needs.{needs}
-use Rattle.steps.proofs.Found.{sought-part}
-use Rattle.keys.proofs.tpmt.TpmtSensitive.field.Tie as tie
-
-pub field-spec : {M : Type 1} → Rattle.keys.proofs.tpmt.TpmtSensitive.field.Statement.statement M
-field-spec = tie.close (tie.spec (search needs) (search needs) (search needs) (search needs) (λ c. search sought-part))

@@ -1,7 +1,0 @@
--- The size of the field that was sought. Assumes nothing.
-use borrow.Author.Needs.{needs}
-use Rattle.steps.proofs.Found.{sought-size}
-use Rattle.keys.proofs.tpmt.TpmtSensitive.field_size.Tie as tie
-
-pub field-size-spec : {M : Type 1} → Rattle.keys.proofs.tpmt.TpmtSensitive.field_size.Statement.statement M
-field-size-spec = tie.close (tie.spec (search needs) (search needs) (search needs) (search needs) (λ c. search sought-size))

@@ -1,7 +1,0 @@
--- It is judged, and then put. Assumes nothing.
-use borrow.Author.Needs.{needs}
-use Rattle.steps.proofs.Marshalled.{marshalled}
-use Rattle.keys.proofs.tpmt.TpmtSensitive.marshal.Tie as tie
-
-pub marshal-spec : {M : Type 1} → Rattle.keys.proofs.tpmt.TpmtSensitive.marshal.Statement.statement M
-marshal-spec = tie.close (tie.spec (search needs) (search needs) (search needs) (search needs) (search needs) (search needs) (λ c. search marshalled))

@@ -1,8 +1,0 @@
--- The end is that of the record that was read. Assumes nothing.
-use borrow.Author.Needs.{needs}
-use Rattle.schemes.specs.Answers.{tpmtKeyedhashSchemeAnswer}
-use Rattle.records.proofs.ByKind.{ending}
-use Rattle.records.proofs.kind.keyedhash_scheme_end.Tie as tie
-
-pub keyedhash-scheme-end-spec : {M : Type 1} → Rattle.records.proofs.kind.keyedhash_scheme_end.Statement.statement M
-keyedhash-scheme-end-spec = tie.close (tie.spec (search needs) (search needs) (search needs) (λ c. search (ending tpmtKeyedhashSchemeAnswer)) (λ c. search (ending tpmtKeyedhashSchemeAnswer)))

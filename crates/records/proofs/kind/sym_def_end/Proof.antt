@@ -1,8 +1,0 @@
--- The end is that of the record that was read. Assumes nothing.
-use borrow.Author.Needs.{needs}
-use Rattle.ciphers.specs.Answers.{tpmtSymDefAnswer}
-use Rattle.records.proofs.ByKind.{ending}
-use Rattle.records.proofs.kind.sym_def_end.Tie as tie
-
-pub sym-def-end-spec : {M : Type 1} → Rattle.records.proofs.kind.sym_def_end.Statement.statement M
-sym-def-end-spec = tie.close (tie.spec (search needs) (search needs) (search needs) (λ c. search (ending tpmtSymDefAnswer)) (λ c. search (ending tpmtSymDefAnswer)))
