@@ -1,5 +1,6 @@
 // Kind 14, the PCR selection list: a count, and so many items. A record keeps the whole list as one span. It has the calls that a kind
 // has (ciphers, tpmt.rt).
+use faults::Refusal;
 use format::list::ListOf;
 use lists::item::item;
 use lists::item::item_size;
@@ -9,7 +10,6 @@ use steps::walk::Walk;
 use steps::walk::judging;
 use steps::walk::list_seeking;
 use steps::walk::seeking;
-use wire::fault::Refusal;
 use wire::measure::Measure;
 use wire::read::nothing_behind;
 use wire::span::Span;

@@ -1,6 +1,7 @@
 // The structures that an attestation holds.
 use crate::list::TpmlPcrSelection;
 use crate::list::TpmlPcrSelectionRead;
+use faults::Refusal;
 use format::codes::TpmAlgId;
 use format::codes::TpmAlgIdRead;
 use format::limits;
@@ -11,7 +12,6 @@ use format::uint::uint16;
 use format::uint::uint32;
 use format::uint::yes_no;
 use steps::walk::Walk;
-use wire::fault::Refusal;
 use wire::read::NumberRead;
 use wire::read::SpanRead;
 use wire::read::buffer;

@@ -1,5 +1,6 @@
 // The unions of kinds 1 and 2, with the calls that a union has: `unmarshal_tagged` reads the arm that the selector chooses, `matches_tag` says whether
 // the payload is that arm, and `walk_tagged` asks it where the arm is due and then goes over what is held.
+use faults::Refusal;
 use format::codes::DigestLen;
 use format::codes::TpmAlgId;
 use format::codes::TpmAlgIdRead;
@@ -7,7 +8,6 @@ use format::registry;
 use format::uint::Uint16Read;
 use format::uint::uint16;
 use steps::walk::Walk;
-use wire::fault::Refusal;
 use wire::read::SpanRead;
 use wire::read::plain;
 use wire::span::Span;

@@ -1,10 +1,10 @@
 // Lists every deposit on standard input: two bytes that say how long it is, then the deposit, and then the next. Behind the listing of a
 // record that was read comes the line `again`, with the bytes that it is written as.
+use copies::walk::copy;
 use format::uint::Uint16Read;
 use format::uint::uint16;
 use listing::deposit::LISTING_ROOM;
 use listing::deposit::list_deposit;
-use records::walk::copy;
 use text::put::put_hex;
 use wire::measure::Measure;
 

@@ -3,8 +3,8 @@ use Prim.Native.Nat.{ℕ}
 use mathlib.Core.Path.{_≡_, refl}
 use mathlib.Core.List.{List, [], _∷_}
 use lib.ListN.{replicate}
+use Rattle.faults.specs.Faults.{short, unknownCode, noSuchArm, tooLong, tooManyItems}
 use Rattle.wire.specs.Bytes.{be}
-use Rattle.wire.specs.Faults.{short, unknownCode, noSuchArm, tooLong, tooManyItems}
 use Rattle.wire.specs.Layout.{_then_}
 use Rattle.wire.specs.Reading.{num, tag, span, Ans, refused, Parsed, parsed, piece, field, list, read}
 use Rattle.format.specs.Codes.{algorithms, curves, isAlgorithm, isCurve, null, aes, rsaes, ecc, sha1}

@@ -4,8 +4,8 @@ use mathlib.Core.Bool.{Bool, _&&_, cond}
 use mathlib.Core.List.{List, [], _∷_}
 use lib.ListN.{length, getD}
 use lib.Dec.{leb, ltb}
+use Rattle.faults.specs.Faults.{badKind}
 use Rattle.wire.specs.declared.choice.Choice.{Choice}
-use Rattle.wire.specs.Faults.{badKind}
 use Rattle.wire.specs.Layout.{Layout, stop, noArm, number, plain, buffer, counted, one, free, _then_}
 use Rattle.wire.specs.Reading.{Reader, Parsed, refused, read}
 use Rattle.wire.specs.Unions.{Row, row, own, armOf, bodyOf, union}

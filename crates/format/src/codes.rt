@@ -2,8 +2,8 @@
 use crate::registry;
 use crate::uint::Uint16Read;
 use crate::uint::uint16;
+use faults::Refusal;
 use wire::choice::Choice;
-use wire::fault::Refusal;
 use wire::widen::wide;
 ghost use mathlib.Core.Path.{_≡_};
 ghost use Rattle.wire.specs.Layout.{one};

@@ -1,5 +1,5 @@
 // Numbers of two and four bytes at the width that a record keeps, yes/no bytes and the magic.
-use wire::fault::Refusal;
+use faults::Refusal;
 use wire::read::NumberRead;
 use wire::read::number;
 use wire::width::Width;

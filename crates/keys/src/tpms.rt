@@ -1,7 +1,7 @@
 // A point on a curve.
+use faults::Refusal;
 use format::limits;
 use steps::walk::Walk;
-use wire::fault::Refusal;
 use wire::read::SpanRead;
 use wire::read::buffer;
 use wire::span::Span;

@@ -1,6 +1,7 @@
 // Kind 11: the public area. It has the calls that a kind has (ciphers, tpmt.rt).
 use crate::tpmu::TpmuPublicId;
 use crate::tpmu::TpmuPublicIdRead;
+use faults::Refusal;
 use format::codes::TpmAlgId;
 use format::codes::TpmAlgIdRead;
 use format::limits;
@@ -11,7 +12,6 @@ use parameters::tpmu::TpmuPublicParmsRead;
 use steps::walk::Walk;
 use steps::walk::judging;
 use steps::walk::seeking;
-use wire::fault::Refusal;
 use wire::measure::Measure;
 use wire::read::SpanRead;
 use wire::read::buffer;
@@ -20,9 +20,9 @@ use wire::span::Span;
 use wire::width::Width;
 ghost use mathlib.Core.Path.{_≡_};
 ghost use mathlib.Core.List.{[]};
+ghost use Rattle.faults.specs.Faults.{noField};
 ghost use Rattle.wire.specs.Answers.{spanPart, measureAnswer};
 ghost use Rattle.wire.specs.Layout.{_then_};
-ghost use Rattle.wire.specs.Faults.{noField};
 ghost use Rattle.wire.specs.Reading.{num, also, read, readWhole, refused};
 ghost use Rattle.wire.specs.Fields.{partOf, sizeOf, fieldOf};
 ghost use Rattle.format.specs.Kinds.{tpmtPublic, tpmuPublicParms, tpmuPublicId};

@@ -1,11 +1,11 @@
 // What is unique of a public area, by the type, as the parameters are. It has the calls that a union has (ciphers, tpmu.rt).
 use crate::tpms::TpmsEccPoint;
 use crate::tpms::TpmsEccPointRead;
+use faults::Refusal;
 use format::codes::TpmAlgId;
 use format::limits;
 use format::registry;
 use steps::walk::Walk;
-use wire::fault::Refusal;
 use wire::read::SpanRead;
 use wire::read::buffer;
 use wire::span::Span;

@@ -8,10 +8,10 @@ use mathlib.Core.List.{List, [], _∷_, _++_}
 use lib.ListN.{length, take, drop, getD, length-append}
 use lib.Dec.{leb}
 use lib.Seq.{length-take-le, take-all}
-use Rattle.wire.specs.declared.fault.Refusal.{Refusal}
+use Rattle.faults.specs.declared.Refusal.{Refusal}
+use Rattle.faults.specs.Faults.{paper, noRoom, badKind, oversize}
 use Rattle.wire.specs.declared.measure.Measure.{Measure}
 use Rattle.wire.specs.Bytes.{Bytes}
-use Rattle.wire.specs.Faults.{paper, noRoom, badKind, oversize}
 use Rattle.wire.specs.Reading.{Ans, Part, found, refused, Parsed, parsed, endOf}
 use Rattle.wire.specs.Answers.{measureAnswer}
 use Rattle.wire.proofs.Rest.{told}
@@ -25,9 +25,9 @@ use Rattle.text.proofs.Rows.{puts-both, puts-same, read-text-length, refused-te
 use Rattle.steps.specs.declared.walk.Walk.{Walk}
 use Rattle.steps.specs.Walks.{here, lining}
 use Rattle.steps.proofs.Listed.{walk-lists}
-use Rattle.records.specs.Walked.{WalkOf}
-use Rattle.records.proofs.Rewritten.{read-record-lies-in-its-source}
-use Rattle.records.proofs.Walked.{read-of-kind, read-bytes}
+use Rattle.copies.specs.Walked.{WalkOf}
+use Rattle.copies.proofs.Rewritten.{read-record-lies-in-its-source}
+use Rattle.copies.proofs.Walked.{read-of-kind, read-bytes}
 use Rattle.listing.specs.Listing.{judged, answerText, recordText, listing, Lists}
 
 -- ---- what is answered

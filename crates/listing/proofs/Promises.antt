@@ -6,9 +6,9 @@ use mathlib.Core.Path.{_≡_, refl, sym, ap, _∙_}
 use mathlib.Core.Bool.{true, false}
 use mathlib.Core.List.{List, [], _∷_, _++_}
 use lib.ListN.{length, drop, length-append}
-use Rattle.wire.specs.declared.fault.Refusal.{Refusal}
+use Rattle.faults.specs.declared.Refusal.{Refusal}
+use Rattle.faults.specs.Faults.{paper, noRoom, badKind, oversize}
 use Rattle.wire.specs.declared.measure.Measure.{Measure}
-use Rattle.wire.specs.Faults.{paper, noRoom, badKind, oversize}
 use Rattle.wire.specs.Bytes.{be}
 use Rattle.wire.specs.Layout.{_then_}
 use Rattle.wire.specs.Grammar.{Token, Spells, placed}

@@ -5,9 +5,9 @@ use mathlib.Core.Bool.{cond}
 use mathlib.Core.List.{List, [], _∷_, _++_}
 use lib.ListN.{length, drop}
 use lib.Dec.{leb}
+use Rattle.faults.specs.Faults.{paper, noRoom, badKind, oversize}
 use Rattle.wire.specs.declared.measure.Measure.{Measure}
 use Rattle.wire.specs.Answers.{measureAnswer}
-use Rattle.wire.specs.Faults.{paper, noRoom, badKind, oversize}
 use Rattle.wire.specs.Reading.{Ans, found, refused, Parsed, read}
 use Rattle.format.specs.Kinds.{isKind, layoutOf}
 use Rattle.wire.specs.Lines.{lines}

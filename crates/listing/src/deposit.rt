@@ -1,18 +1,18 @@
 // The listing of a deposit: a kind byte, and then the record.
+use copies::walk::walk;
+use faults::Refusal;
 use format::kind::is_kind;
 use records::kind::record_end;
-use records::walk::walk;
 use steps::walk::lining;
 use text::answer::put_read_line;
 use text::answer::put_refusal_line;
-use wire::fault::Refusal;
 use wire::measure::Measure;
 use wire::widen::wide_byte;
 ghost use mathlib.Core.Path.{_≡_};
 ghost use mathlib.Core.Bool.{cond};
 ghost use Prim.Native.Nat.{_≤_};
 ghost use lib.ListN.{length};
-ghost use Rattle.wire.specs.Faults.{badKind, oversize};
+ghost use Rattle.faults.specs.Faults.{badKind, oversize};
 ghost use Rattle.format.specs.Kinds.{isKind};
 ghost use Rattle.text.specs.Puts.{Puts};
 ghost use Rattle.listing.specs.Listing.{recordText, Lists};

@@ -7,12 +7,12 @@ use mathlib.Core.List.{List, [], _∷_}
 use lib.ListN.{length, take, drop}
 use lib.Seq.{take-take, drop-drop}
 use borrow.Author.Tests.{le-leb}
-use Rattle.wire.specs.declared.fault.Refusal.{Refusal}
+use Rattle.faults.specs.declared.Refusal.{Refusal}
+use Rattle.faults.specs.Faults.{noField}
 use Rattle.wire.specs.declared.measure.Measure.{Measure}
 use Rattle.wire.specs.declared.span.Span.{Span}
 use Rattle.wire.specs.Answers.{startOf, lenOf, spanPart, measureAnswer}
 use Rattle.wire.specs.Bytes.{Bytes, be}
-use Rattle.wire.specs.Faults.{noField}
 use Rattle.wire.specs.Reading.{Part, num, tag, span, Ans, found, refused, next, Parsed, Reader, walk, endOf, read}
 use Rattle.wire.specs.Writing.{cut, whole, moved}
 use Rattle.wire.specs.Fields.{pickField}

@@ -9,12 +9,12 @@ use mathlib.Core.List.{List, [], _∷_, _++_}
 use lib.ListN.{length, take, drop}
 use lib.Dec.{leb, eqb}
 use borrow.Author.Tests.{leb-true, eq-eqb, ne-eqb}
-use Rattle.wire.specs.declared.fault.Refusal.{Refusal}
+use Rattle.faults.specs.declared.Refusal.{Refusal}
+use Rattle.faults.specs.Faults.{short, trailing}
 use Rattle.wire.specs.declared.measure.Measure.{Measure}
 use Rattle.wire.specs.declared.span.Span.{Span}
 use Rattle.wire.specs.Answers.{startOf, lenOf, measureAnswer}
 use Rattle.wire.specs.Bytes.{Bytes, be}
-use Rattle.wire.specs.Faults.{short, trailing}
 use Rattle.wire.specs.Layout.{free, lengthTo, one}
 use Rattle.wire.specs.Lines.{line, aCode, aNumber, spanLine, lines, ofRead}
 use Rattle.wire.specs.Reading.{Part, num, tag, span, Ans, found, refused, next, left, Parsed, parsed, Reader, piece, field, walk, list, endOf, read}

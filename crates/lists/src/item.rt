@@ -2,12 +2,12 @@
 use crate::list::item_end;
 use crate::list::items_end;
 use crate::list::judge_list;
+use faults::Refusal;
 use format::list::ListOf;
 use format::uint::Uint32Read;
 use format::uint::uint32;
 use steps::walk::FOUND;
 use steps::walk::Walk;
-use wire::fault::Refusal;
 use wire::measure::Measure;
 use wire::span::Span;
 ghost use mathlib.Core.Path.{_≡_};

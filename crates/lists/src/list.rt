@@ -1,4 +1,5 @@
 // Lists: a count, and so many items. Every list is a row of the format's table; what an item of each is stands here.
+use faults::Refusal;
 use format::codes::TpmAlgId;
 use format::codes::TpmAlgIdRead;
 use format::list::ListOf;
@@ -16,7 +17,6 @@ use steps::walk::finding;
 use steps::walk::putting;
 use steps::walk::refusing;
 use text::line::Word;
-use wire::fault::Refusal;
 use wire::measure::Measure;
 use wire::read::SpanRead;
 use wire::read::buffer;

@@ -1,6 +1,7 @@
 // The structures of parameters.
 use ciphers::tpmt::TpmtSymDef;
 use ciphers::tpmt::TpmtSymDefRead;
+use faults::Refusal;
 use format::codes::TpmEccCurve;
 use format::codes::TpmEccCurveRead;
 use format::uint::Uint16Read;
@@ -16,7 +17,6 @@ use schemes::tpmt::TpmtKeyedhashSchemeRead;
 use schemes::tpmt::TpmtRsaScheme;
 use schemes::tpmt::TpmtRsaSchemeRead;
 use steps::walk::Walk;
-use wire::fault::Refusal;
 ghost use mathlib.Core.Path.{_≡_};
 ghost use mathlib.Core.List.{[]};
 ghost use Rattle.wire.specs.Reading.{read};

@@ -1,18 +1,18 @@
 // Kind 9: a key's type, and its parameters. It has the calls that a kind has (ciphers, tpmt.rt).
 use crate::tpmu::TpmuPublicParms;
 use crate::tpmu::TpmuPublicParmsRead;
+use faults::Refusal;
 use format::codes::TpmAlgId;
 use format::codes::TpmAlgIdRead;
 use steps::walk::Walk;
 use steps::walk::judging;
 use steps::walk::seeking;
-use wire::fault::Refusal;
 use wire::measure::Measure;
 use wire::read::nothing_behind;
 ghost use mathlib.Core.Path.{_≡_};
 ghost use mathlib.Core.List.{[]};
+ghost use Rattle.faults.specs.Faults.{noField};
 ghost use Rattle.wire.specs.Answers.{measureAnswer};
-ghost use Rattle.wire.specs.Faults.{noField};
 ghost use Rattle.wire.specs.Reading.{read, readWhole, refused};
 ghost use Rattle.wire.specs.Fields.{partOf, sizeOf, fieldOf};
 ghost use Rattle.format.specs.Kinds.{tpmtPublicParms};

@@ -1,9 +1,2 @@
-pub mod ByKind
 pub mod Promises
-pub mod Walked
-pub mod Lent
-pub mod Begun
-pub mod Laid
-pub mod Rewritten
 pub mod Readers
-pub mod Writers

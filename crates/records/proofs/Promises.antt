@@ -5,8 +5,8 @@ use mathlib.Core.Logic.{_⊎_}
 use mathlib.Core.Bool.{true}
 use mathlib.Core.List.{List, [], _∷_, _++_}
 use lib.ListN.{length}
-use Rattle.wire.specs.declared.fault.Fault.the-variants.{Short}
-use Rattle.wire.specs.declared.fault.Refusal.{Refusal}
+use Rattle.faults.specs.declared.Fault.the-variants.{Short}
+use Rattle.faults.specs.declared.Refusal.{Refusal}
 use Rattle.wire.specs.Bytes.{Bytes}
 use Rattle.wire.specs.Layout.{Layout}
 use Rattle.wire.specs.Reading.{found, refused, Parsed, parsed, read, endOf}
@@ -22,7 +22,7 @@ use Rattle.wire.proofs.Refused.{refuses-read, read-refuses}
 use Rattle.wire.proofs.Stable.{IsShort, cut-short}
 use Rattle.wire.proofs.Later.{later-read, later-cut}
 use Rattle.format.specs.Kinds.{isKind, layoutOf, readKind}
-use Rattle.records.proofs.ByKind.{of-kind}
+use Rattle.format.proofs.Numbered.{of-kind}
 
 module _ (k : ℕ) where
   -- ---- a record is found exactly where a legal one starts

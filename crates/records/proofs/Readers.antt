@@ -9,13 +9,13 @@ use mathlib.Core.Bool.{true, false}
 use mathlib.Core.List.{List, [], _∷_, _++_, append-nil}
 use lib.ListN.{length, drop, length-drop}
 use lib.Seq.{drop-at, drop-drop}
+use Rattle.faults.specs.declared.Fault.the-variants.{Short}
+use Rattle.faults.specs.declared.Refusal.{Refusal}
+use Rattle.faults.specs.Faults.{badKind, trailing}
 use Rattle.wire.specs.declared.choice.Choice.{Choice}
 use Rattle.wire.specs.declared.measure.Measure.{Measure}
-use Rattle.wire.specs.declared.fault.Fault.the-variants.{Short}
-use Rattle.wire.specs.declared.fault.Refusal.{Refusal}
 use Rattle.wire.specs.Answers.{measureAnswer}
 use Rattle.wire.specs.Bytes.{Bytes}
-use Rattle.wire.specs.Faults.{badKind, trailing}
 use Rattle.wire.specs.Layout.{Layout, noArm}
 use Rattle.wire.specs.Reading.{Part, Ans, refused, Parsed, parsed, left, read, readWhole, endOf}
 use Rattle.wire.specs.Grammar.{Token, Spells, Stands, Starts, placed, shown}
@@ -33,7 +33,7 @@ use Rattle.wire.proofs.Whole.{whole-is-read, read-is-whole, read-is-trailing}
 use Rattle.wire.proofs.Wholes.{whole-refused}
 use Rattle.wire.proofs.Unions.{chosen-is}
 use Rattle.format.specs.Kinds.{tpmtHa, tpmtSymDef, tpmtKdfScheme, tpmtKeyedhashScheme, tpmtSigScheme, tpmtAsymScheme, tpmtPublicParms, tpmtSignature, tpmtPublic, tpmtSensitive, tpmsAttest, tpmlPcrSelection, kinds, isKind, layoutOf, readKind}
-use Rattle.records.proofs.ByKind.{no-kind}
+use Rattle.format.proofs.Numbered.{no-kind}
 use Rattle.records.proofs.Promises as promises
 
 -- ---- which layout a kind has

@@ -3,7 +3,7 @@ use Prim.Native.Nat.{ℕ, _≤_}
 use native.Mathlib.Omega.{arith}
 use mathlib.Core.Path.{_≡_, refl, sym, _∙_}
 use mathlib.Core.List.{List}
-use Rattle.wire.specs.declared.fault.Refusal.{Refusal}
+use Rattle.faults.specs.declared.Refusal.{Refusal}
 use Rattle.wire.specs.declared.choice.Choice.{Choice}
 use Rattle.wire.specs.declared.choice.Choice.the-variants.{The}
 use Rattle.wire.specs.Reading.{tag, refused, read}

@@ -1,8 +1,8 @@
 // The structures that schemes hold.
+use faults::Refusal;
 use format::codes::TpmAlgId;
 use format::codes::TpmAlgIdRead;
 use steps::walk::Walk;
-use wire::fault::Refusal;
 ghost use mathlib.Core.Path.{_≡_};
 ghost use mathlib.Core.List.{[]};
 ghost use Rattle.wire.specs.Reading.{read};

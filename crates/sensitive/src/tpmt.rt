@@ -1,13 +1,13 @@
 // Kind 12: the sensitive area. It has the calls that a kind has (ciphers, tpmt.rt).
 use crate::tpmu::TpmuSensitiveComposite;
 use crate::tpmu::TpmuSensitiveCompositeRead;
+use faults::Refusal;
 use format::codes::TpmAlgId;
 use format::codes::TpmAlgIdRead;
 use format::limits;
 use steps::walk::Walk;
 use steps::walk::judging;
 use steps::walk::seeking;
-use wire::fault::Refusal;
 use wire::measure::Measure;
 use wire::read::SpanRead;
 use wire::read::buffer;
@@ -16,8 +16,8 @@ use wire::span::Span;
 use wire::width::Width;
 ghost use mathlib.Core.Path.{_≡_};
 ghost use mathlib.Core.List.{[]};
+ghost use Rattle.faults.specs.Faults.{noField};
 ghost use Rattle.wire.specs.Answers.{measureAnswer};
-ghost use Rattle.wire.specs.Faults.{noField};
 ghost use Rattle.wire.specs.Reading.{read, readWhole, refused};
 ghost use Rattle.wire.specs.Fields.{partOf, sizeOf, fieldOf};
 ghost use Rattle.format.specs.Kinds.{tpmtSensitive};

@@ -1,9 +1,9 @@
 // What a sensitive area keeps, by its type. The union has no Null. It has the calls that a union has (ciphers, tpmu.rt).
+use faults::Refusal;
 use format::codes::TpmAlgId;
 use format::limits;
 use format::registry;
 use steps::walk::Walk;
-use wire::fault::Refusal;
 use wire::read::SpanRead;
 use wire::read::buffer;
 use wire::span::Span;

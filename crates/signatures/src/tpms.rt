@@ -1,9 +1,9 @@
 // The structures of signatures.
+use faults::Refusal;
 use format::codes::TpmAlgId;
 use format::codes::TpmAlgIdRead;
 use format::limits;
 use steps::walk::Walk;
-use wire::fault::Refusal;
 use wire::read::SpanRead;
 use wire::read::buffer;
 use wire::span::Span;

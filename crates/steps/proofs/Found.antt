@@ -2,9 +2,9 @@
 use Prim.Native.Nat.{ℕ, zero, suc}
 use mathlib.Core.Path.{_≡_, refl, sym, ap, _∙_}
 use mathlib.Core.List.{List, [], _∷_}
+use Rattle.faults.specs.Faults.{noField}
 use Rattle.wire.specs.declared.span.Span.{Span}
 use Rattle.wire.specs.Answers.{startOf, lenOf, spanPart}
-use Rattle.wire.specs.Faults.{noField}
 use Rattle.wire.specs.Layout.{Layout}
 use Rattle.wire.specs.Reading.{Part, num, tag, span, Ans, found, refused}
 use Rattle.wire.specs.Writing.{cut}

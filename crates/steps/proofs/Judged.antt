@@ -5,11 +5,11 @@ use mathlib.Core.Path.{_≡_, ap, _∙_}
 use mathlib.Core.List.{List, _++_}
 use lib.ListN.{length, length-append}
 use borrow.Author.Tests.{le-leb, lt-leb, lt-ltb, eq-eqb, ne-eqb}
-use Rattle.wire.specs.declared.fault.Refusal.{Refusal}
+use Rattle.faults.specs.declared.Refusal.{Refusal}
+use Rattle.faults.specs.Faults.{mismatch, tooLong}
 use Rattle.wire.specs.declared.span.Span.{Span}
 use Rattle.wire.specs.Answers.{startOf, lenOf}
 use Rattle.wire.specs.Bytes.{digits}
-use Rattle.wire.specs.Faults.{mismatch, tooLong}
 use Rattle.wire.specs.Reading.{found, refused}
 use Rattle.wire.specs.Writing.{cut, spelt}
 use Rattle.wire.specs.Fields.{partOf, sizeOf}

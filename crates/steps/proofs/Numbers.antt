@@ -7,11 +7,11 @@ use mathlib.Core.List.{List}
 use lib.ListN.{length}
 use lib.Dec.{leb, eqb}
 use borrow.Author.Tests.{lt-ltb, le-leb, lt-leb, ne-eqb}
-use Rattle.wire.specs.declared.fault.Refusal.{Refusal}
+use Rattle.faults.specs.declared.Refusal.{Refusal}
+use Rattle.faults.specs.Faults.{badValue}
 use Rattle.wire.specs.declared.width.Width.{Width}
 use Rattle.wire.specs.Answers.{widthOf}
 use Rattle.wire.specs.Bytes.{digits}
-use Rattle.wire.specs.Faults.{badValue}
 use Rattle.wire.specs.Layout.{Rule, free, allows, breach}
 use Rattle.wire.specs.Lines.{line, sayNumber}
 use Rattle.wire.specs.Reading.{found}

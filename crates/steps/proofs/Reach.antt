@@ -8,9 +8,9 @@ use mathlib.Core.List.{List}
 use lib.ListN.{length, take, drop}
 use lib.Dec.{leb, eqb}
 use borrow.Author.Tests.{leb-true, eqb-true}
-use Rattle.wire.specs.declared.fault.Refusal.{Refusal}
+use Rattle.faults.specs.declared.Refusal.{Refusal}
+use Rattle.faults.specs.Faults.{short}
 use Rattle.wire.specs.Bytes.{be}
-use Rattle.wire.specs.Faults.{short}
 use Rattle.wire.specs.Layout.{Rule, free, listed, fixed, lengthTo, countTo, allows, breach, stop, buffer}
 use Rattle.wire.specs.Reading.{Part, num, Ans, found, refused, next, also, left, Parsed, piece, field, walk, list, endOf, read}
 use Rattle.wire.specs.Writing.{whole}

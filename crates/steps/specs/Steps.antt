@@ -5,12 +5,12 @@ use mathlib.Core.Path.{_≡_}
 use mathlib.Core.List.{List, [], _∷_, _++_}
 use lib.ListN.{length, take, drop}
 use lib.Dec.{eqb}
+use Rattle.faults.specs.Faults.{noSuchArm, mismatch}
 use Rattle.wire.specs.declared.choice.Choice.{Choice}
 use Rattle.wire.specs.declared.span.Span.{Span}
 use Rattle.wire.specs.declared.width.Width.{Width}
 use Rattle.wire.specs.Answers.{widthOf, startOf, lenOf, spanPart}
 use Rattle.wire.specs.Bytes.{digits}
-use Rattle.wire.specs.Faults.{noSuchArm, mismatch}
 use Rattle.wire.specs.Layout.{Rule, lengthTo, Layout}
 use Rattle.wire.specs.Lines.{aNumber, sayNumber, Line, line, spanLine, itemLines, listLines, lines}
 use Rattle.wire.specs.Reading.{Part, Ans, found, refused, next, read}

@@ -5,14 +5,14 @@ use mathlib.Core.Path.{_≡_}
 use mathlib.Core.List.{List, [], _∷_, _++_}
 use lib.ListN.{length, take, drop}
 use lib.Dec.{leb, eqb}
+use Rattle.faults.specs.declared.Fault.{Fault}
+use Rattle.faults.specs.declared.Refusal.{Refusal}
+use Rattle.faults.specs.Faults.{paper, refusal, noField, noRoom, noSuchArm, mismatch}
 use Rattle.wire.specs.declared.choice.Choice.{Choice}
-use Rattle.wire.specs.declared.fault.Fault.{Fault}
-use Rattle.wire.specs.declared.fault.Refusal.{Refusal}
 use Rattle.wire.specs.declared.span.Span.{Span}
 use Rattle.wire.specs.declared.width.Width.{Width}
 use Rattle.wire.specs.Answers.{widthOf, startOf, lenOf}
 use Rattle.wire.specs.Bytes.{digits}
-use Rattle.wire.specs.Faults.{paper, refusal, noField, noRoom, noSuchArm, mismatch}
 use Rattle.wire.specs.Layout.{Rule, Layout}
 use Rattle.wire.specs.Lines.{Says, aCode, aNumber, theBytes, Line, line}
 use Rattle.wire.specs.Reading.{Part, Ans, found, refused, next}

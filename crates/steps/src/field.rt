@@ -4,7 +4,7 @@ use crate::walk::SEEK;
 use crate::walk::Walk;
 use crate::walk::finding;
 use crate::walk::seeking;
-use wire::fault::Refusal;
+use faults::Refusal;
 use wire::measure::Measure;
 use wire::span::Span;
 ghost use mathlib.Core.Path.{_≡_};

@@ -1,6 +1,6 @@
 // A walk over a record: what it is for, and how far it came. Three words by value, which a record's fields hand on in wire order.
-use wire::fault::Fault;
-use wire::fault::Refusal;
+use faults::Fault;
+use faults::Refusal;
 use wire::measure::Measure;
 use wire::span::Span;
 ghost use mathlib.Core.Path.{_≡_};

@@ -2,11 +2,11 @@
 use crate::line::put_line_end;
 use crate::put::put_decimal;
 use crate::put::put_text;
-use wire::fault::Refusal;
+use faults::Refusal;
 ghost use mathlib.Core.List.{_++_};
 ghost use Prim.Native.Nat.{_+_, _≤_};
 ghost use lib.ListN.{length};
-ghost use Rattle.wire.specs.Faults.{paper};
+ghost use Rattle.faults.specs.Faults.{paper};
 ghost use Rattle.text.specs.Puts.{Puts};
 ghost use Rattle.text.specs.Text.{decimal, readText, refusedText};
 

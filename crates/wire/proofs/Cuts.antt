@@ -8,8 +8,8 @@ use lib.ListN.{length, take, drop, length-drop}
 use lib.Seq.{length-take-le}
 use lib.Dec.{leb}
 use borrow.Author.Tests.{leb-true}
-use Rattle.wire.specs.declared.fault.Refusal.{Refusal}
-use Rattle.wire.specs.Faults.{badSpan}
+use Rattle.faults.specs.declared.Refusal.{Refusal}
+use Rattle.faults.specs.Faults.{badSpan}
 use Rattle.wire.specs.Reading.{Ans, found, refused}
 use Rattle.wire.specs.Writing.{cut}
 use Rattle.wire.specs.Fields.{partOf, sizeOf}

@@ -10,7 +10,7 @@ use lib.ListN.{length, take, drop, getD, set, length-set, take-append-drop}
 use lib.Seq.{take-suc, take-length, set-at, length-take-le, paste, paste-zero, paste-suc}
 use lib.Dec.{leb}
 use borrow.Author.Tests.{le-leb, lt-leb}
-use Rattle.wire.specs.Faults.{noRoom}
+use Rattle.faults.specs.Faults.{noRoom}
 use Rattle.wire.specs.Reading.{found, refused}
 use Rattle.wire.specs.Filling.{written, filled}
 

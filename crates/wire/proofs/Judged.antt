@@ -6,9 +6,9 @@ use mathlib.Core.List.{List, [], _∷_}
 use lib.ListN.{getD}
 use mir.Syntax.{w8}
 use mir.Val.{Fits}
-use Rattle.wire.specs.declared.fault.Refusal.{Refusal}
+use Rattle.faults.specs.declared.Refusal.{Refusal}
+use Rattle.faults.specs.Faults.{unknownCode, badValue}
 use Rattle.wire.specs.Bytes.{be}
-use Rattle.wire.specs.Faults.{unknownCode, badValue}
 use Rattle.wire.specs.Layout.{Rule, allows, breach, free, one}
 use Rattle.wire.specs.Reading.{Part, num, tag, span, Ans, found, refused, Parsed, parsed, next, also, field, piece, read}
 use Rattle.wire.proofs.Stand.{bytes-of}

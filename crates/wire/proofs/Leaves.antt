@@ -8,9 +8,9 @@ use mathlib.Core.List.{List, [], _∷_}
 use lib.ListN.{take, drop}
 use lib.Dec.{leb}
 use borrow.Author.Tests.{le-leb, lt-leb, leb-true}
-use Rattle.wire.specs.declared.fault.Refusal.{Refusal}
+use Rattle.faults.specs.declared.Refusal.{Refusal}
+use Rattle.faults.specs.Faults.{short, tooLong, tooManyItems}
 use Rattle.wire.specs.Bytes.{be}
-use Rattle.wire.specs.Faults.{short, tooLong, tooManyItems}
 use Rattle.wire.specs.Layout.{Rule, free, lengthTo, countTo, allows, breach, Layout, stop, plain, buffer, counted, one}
 use Rattle.wire.specs.Reading.{num, span, Ans, found, refused, Parsed, parsed, next, also, Reader, left, piece, field, walk, list, read}
 use Rattle.wire.proofs.Steps.{found-refused, parsed-same, when-found}

@@ -7,7 +7,6 @@ pub mod Prefix
 pub mod Whole
 pub mod Stable
 pub mod Rules
-pub mod Faults
 pub mod Refused
 pub mod Written
 pub mod Unwritten

@@ -3,7 +3,7 @@ use Prim.Native.Nat.{ℕ}
 use mathlib.Core.Path.{_≡_, refl, sym, _∙_}
 use mathlib.Core.Bool.{true, false, false≢true}
 use native.Mathlib.Omega.{arith}
-use Rattle.wire.specs.declared.fault.Fault.the-variants.{Short, UnknownCode}
+use Rattle.faults.specs.declared.Fault.the-variants.{Short, UnknownCode}
 use Rattle.wire.specs.Layout.{Rule, free, listed, fixed, lengthTo, countTo, allows, breach}
 use Rattle.wire.specs.Editions.{LaterRule, rule-same, rule-longer}
 

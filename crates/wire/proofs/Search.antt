@@ -4,10 +4,10 @@ use Prim.Native.Nat.{ℕ}
 use mathlib.Core.Path.{_≡_, refl, sym, ap, subst, _∙_}
 use mathlib.Core.Bool.{Bool, false}
 use mathlib.Core.List.{List, [], _∷_, _++_}
-use Rattle.wire.specs.declared.fault.Refusal.{Refusal}
+use Rattle.faults.specs.declared.Refusal.{Refusal}
+use Rattle.faults.specs.Faults.{noSuchArm}
 use Rattle.wire.specs.declared.choice.Choice.{Choice}
 use Rattle.wire.specs.declared.choice.Choice.the-variants.{Nothing, The}
-use Rattle.wire.specs.Faults.{noSuchArm}
 use Rattle.wire.specs.Layout.{Rule, Layout, stop, arm, number, buffer, one, _then_}
 use Rattle.wire.specs.Reading.{Part, num, tag, span, Ans, found, Parsed, refused, parsed, next, also, field, read}
 use Rattle.wire.specs.Unions.{union, isArm, held}

@@ -7,7 +7,7 @@ use mathlib.Core.List.{List}
 use lib.ListN.{length}
 use lib.Dec.{leb}
 use borrow.Author.Tests.{le-leb, leb-true}
-use Rattle.wire.specs.declared.fault.Refusal.{Refusal}
+use Rattle.faults.specs.declared.Refusal.{Refusal}
 use Rattle.wire.specs.Bytes.{Bytes, be, digits}
 use Rattle.wire.specs.Layout.{Rule, allows, breach}
 use Rattle.wire.specs.Reading.{Part, Ans, found, refused, Parsed, parsed, next, also, left, piece, field}

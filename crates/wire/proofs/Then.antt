@@ -8,10 +8,10 @@ use mathlib.Core.List.{List, [], _∷_, _++_, append-assoc}
 use lib.ListN.{length, length-append}
 use lib.Dec.{eqb}
 use borrow.Author.Tests.{eq-eqb, eqb-true}
+use Rattle.faults.specs.declared.Refusal.{Refusal}
+use Rattle.faults.specs.Faults.{mismatch}
 use Rattle.wire.specs.Bytes.{digits}
 use Rattle.wire.specs.Grammar.{Token, Spells, ends, holds, says, shows, sizes, counts}
-use Rattle.wire.specs.declared.fault.Refusal.{Refusal}
-use Rattle.wire.specs.Faults.{mismatch}
 use Rattle.wire.specs.Layout.{Rule, allows, Layout, stop, noArm, arm, number, plain, buffer, counted, _then_, lengthTo}
 use Rattle.wire.specs.Reading.{Part, num, tag, span, Ans, found, refused, Parsed, parsed, next, also, piece, field, list, read}
 use Rattle.wire.specs.Writing.{cut, spelt, whole, moved, ahead, onto, lay}

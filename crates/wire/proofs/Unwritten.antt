@@ -8,9 +8,9 @@ use mathlib.Core.List.{List, [], _∷_, _++_}
 use lib.ListN.{length, take, drop, length-append}
 use lib.Dec.{leb, eqb}
 use borrow.Author.Tests.{le-leb, lt-leb, lt-ltb, eq-eqb, ne-eqb, leb-true, leb-false, eqb-true, eqb-false}
+use Rattle.faults.specs.declared.Refusal.{Refusal}
+use Rattle.faults.specs.Faults.{badSpan, trailing}
 use Rattle.wire.specs.Bytes.{Bytes, digits}
-use Rattle.wire.specs.declared.fault.Refusal.{Refusal}
-use Rattle.wire.specs.Faults.{badSpan, trailing}
 use Rattle.wire.specs.Layout.{Rule, Layout, stop, noArm, arm, number, plain, buffer, counted, lengthTo, allows, breach}
 use Rattle.wire.specs.Reading.{Part, num, tag, span, Ans, found, refused, next, Parsed, list, read}
 use Rattle.wire.specs.Grammar.{Token, Spells, ends, holds, says, shows, sizes, counts, placed}

@@ -7,7 +7,7 @@ use mathlib.Core.List.{List, [], _++_, append-nil}
 use lib.ListN.{length}
 use lib.Dec.{leb}
 use borrow.Author.Tests.{le-leb, leb-true}
-use Rattle.wire.specs.Faults.{trailing}
+use Rattle.faults.specs.Faults.{trailing}
 use Rattle.wire.specs.Layout.{Layout}
 use Rattle.wire.specs.Reading.{found, refused, Parsed, parsed, left, read, nothingBehind, readWhole}
 use Rattle.wire.specs.Grammar.{Token, Spells, Stands, placed}

@@ -4,10 +4,10 @@ use mathlib.Core.Path.{_≡_, refl, sym, ap, _∙_}
 use mathlib.Core.List.{List}
 use lib.ListN.{length}
 use borrow.Author.Tests.{le-leb, lt-leb}
-use Rattle.wire.specs.declared.fault.Refusal.{Refusal}
+use Rattle.faults.specs.declared.Refusal.{Refusal}
+use Rattle.faults.specs.Faults.{trailing}
 use Rattle.wire.specs.declared.measure.Measure.{Measure}
 use Rattle.wire.specs.Answers.{measureAnswer}
-use Rattle.wire.specs.Faults.{trailing}
 use Rattle.wire.specs.Layout.{Layout}
 use Rattle.wire.specs.Reading.{Part, Ans, found, refused, next, Parsed, parsed, left, read, readWhole, nothingBehind, endOf}
 use Rattle.wire.proofs.Steps.{found-same, found-refused}

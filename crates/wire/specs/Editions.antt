@@ -4,8 +4,8 @@ use mathlib.Core.Path.{_≡_}
 use mathlib.Core.Logic.{_⊎_}
 use mathlib.Core.Bool.{Bool, true}
 use mathlib.Core.List.{List}
-use Rattle.wire.specs.declared.fault.Fault.the-variants.{UnknownCode, NoArm}
-use Rattle.wire.specs.declared.fault.Refusal.{Refusal}
+use Rattle.faults.specs.declared.Fault.the-variants.{UnknownCode, NoArm}
+use Rattle.faults.specs.declared.Refusal.{Refusal}
 use Rattle.wire.specs.Layout.{Rule, listed, allows, Layout, stop, noArm, arm, number, plain, buffer, counted}
 use Rattle.wire.specs.Refusals.{Refuses}
 

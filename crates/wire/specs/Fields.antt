@@ -2,7 +2,7 @@
 use Prim.Native.Nat.{ℕ, zero, suc}
 use mathlib.Core.List.{List, [], _∷_}
 use lib.ListN.{length}
-use Rattle.wire.specs.Faults.{noField}
+use Rattle.faults.specs.Faults.{noField}
 use Rattle.wire.specs.Reading.{Part, num, tag, span, Ans, found, refused}
 use Rattle.wire.specs.Writing.{cut}
 

@@ -4,7 +4,7 @@ use mathlib.Core.List.{List, _++_}
 use mathlib.Core.Bool.{Bool, cond}
 use lib.ListN.{length, take, drop}
 use lib.Dec.{leb}
-use Rattle.wire.specs.Faults.{noRoom}
+use Rattle.faults.specs.Faults.{noRoom}
 use Rattle.wire.specs.Reading.{Ans, found, refused}
 
 -- the bytes bs fit there

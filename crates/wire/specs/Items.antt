@@ -2,8 +2,8 @@
 use Prim.Native.Nat.{ℕ, zero, suc, _-_}
 use mathlib.Core.List.{List}
 use lib.ListN.{take, drop}
+use Rattle.faults.specs.Faults.{noField}
 use Rattle.wire.specs.Bytes.{be}
-use Rattle.wire.specs.Faults.{noField}
 use Rattle.wire.specs.Layout.{Layout}
 use Rattle.wire.specs.Reading.{Part, Ans, found, refused, next, Parsed, Reader, read}
 use Rattle.wire.specs.Writing.{whole}

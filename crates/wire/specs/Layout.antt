@@ -2,8 +2,8 @@
 use Prim.Native.Nat.{ℕ}
 use mathlib.Core.Bool.{Bool, true}
 use lib.Dec.{leb}
-use Rattle.wire.specs.declared.fault.Refusal.{Refusal}
-use Rattle.wire.specs.Faults.{unknownCode, badValue, tooLong, tooManyItems}
+use Rattle.faults.specs.declared.Refusal.{Refusal}
+use Rattle.faults.specs.Faults.{unknownCode, badValue, tooLong, tooManyItems}
 
 -- which numbers a field takes
 pub data Rule : Type 0 where

@@ -1,5 +1,4 @@
 pub mod Bytes
-pub mod Faults
 pub mod Layout
 pub mod Reading
 pub mod Parts

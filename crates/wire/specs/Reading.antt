@@ -4,9 +4,9 @@ use mathlib.Core.List.{List, [], _∷_}
 use mathlib.Core.Bool.{cond}
 use lib.ListN.{length, take, drop}
 use lib.Dec.{leb}
-use Rattle.wire.specs.declared.fault.Refusal.{Refusal}
+use Rattle.faults.specs.declared.Refusal.{Refusal}
+use Rattle.faults.specs.Faults.{short, noSuchArm, trailing}
 use Rattle.wire.specs.Bytes.{be}
-use Rattle.wire.specs.Faults.{short, noSuchArm, trailing}
 use Rattle.wire.specs.Layout.{Rule, allows, breach, lengthTo, countTo, Layout, stop, noArm, arm, number, plain, buffer, counted}
 
 -- what a record keeps of a field: a number, the arm that a union holds, or where bytes stand

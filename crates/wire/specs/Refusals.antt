@@ -4,9 +4,9 @@ use mathlib.Core.Path.{_≡_}
 use mathlib.Core.Bool.{true, false}
 use mathlib.Core.List.{List}
 use lib.ListN.{length}
+use Rattle.faults.specs.declared.Refusal.{Refusal}
+use Rattle.faults.specs.Faults.{short, noSuchArm}
 use Rattle.wire.specs.Bytes.{digits}
-use Rattle.wire.specs.declared.fault.Refusal.{Refusal}
-use Rattle.wire.specs.Faults.{short, noSuchArm}
 use Rattle.wire.specs.Layout.{Rule, allows, breach, lengthTo, countTo, Layout, noArm, arm, number, plain, buffer, counted}
 use Rattle.wire.specs.Reading.{left}
 use Rattle.wire.specs.Grammar.{Token, Spells, Items, Stands}

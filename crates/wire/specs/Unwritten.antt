@@ -4,9 +4,9 @@ use mathlib.Core.Path.{_≡_}
 use mathlib.Core.Bool.{true, false}
 use mathlib.Core.List.{List, [], _∷_, _++_}
 use lib.ListN.{length, take, drop}
+use Rattle.faults.specs.declared.Refusal.{Refusal}
+use Rattle.faults.specs.Faults.{noSuchArm, mismatch, badSpan, tooLong, trailing}
 use Rattle.wire.specs.Bytes.{digits}
-use Rattle.wire.specs.declared.fault.Refusal.{Refusal}
-use Rattle.wire.specs.Faults.{noSuchArm, mismatch, badSpan, tooLong, trailing}
 use Rattle.wire.specs.Layout.{Rule, allows, breach, Layout, stop, noArm, arm, number, plain, buffer, counted}
 use Rattle.wire.specs.Reading.{Part, num, tag, span}
 use Rattle.wire.specs.Grammar.{Items}

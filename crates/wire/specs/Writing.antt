@@ -5,9 +5,9 @@ use mathlib.Core.List.{List, [], _∷_, _++_}
 use mathlib.Core.Bool.{_&&_, cond}
 use lib.ListN.{length, take, drop}
 use lib.Dec.{leb, ltb, eqb}
+use Rattle.faults.specs.declared.Refusal.{Refusal}
+use Rattle.faults.specs.Faults.{refusal, noSuchArm, mismatch, badSpan, trailing}
 use Rattle.wire.specs.Bytes.{digits}
-use Rattle.wire.specs.declared.fault.Refusal.{Refusal}
-use Rattle.wire.specs.Faults.{refusal, noSuchArm, mismatch, badSpan, trailing}
 use Rattle.wire.specs.Layout.{Rule, allows, breach, lengthTo, Layout, stop, noArm, arm, number, plain, buffer, counted}
 use Rattle.wire.specs.Reading.{Part, Ans, found, refused, next, list, read}
 use Rattle.wire.specs.Parts.{onEnd, onNumber, onArm, onSpan}

@@ -1,10 +1,8 @@
 // The ground of the Cabinet: refusals, spans, and the fields that every record is made of, read and put.
 // What is right is said in specs/: bytes, layouts, the grammar, reading, refusals, writing, later editions.
 pub mod choice;
-pub mod fault;
 pub mod measure;
 pub mod read;
 pub mod span;
 pub mod widen;
 pub mod width;
-pub mod write;

@@ -1,5 +1,5 @@
 // An answer that is a number of bytes, or a refusal.
-use crate::fault::Refusal;
+use faults::Refusal;
 
 pub enum Measure {
     Size(usize),

@@ -1,9 +1,9 @@
 // The fields of a record, read from any place of any slice.
-use crate::fault::Refusal;
 use crate::measure::Measure;
 use crate::span::Span;
 use crate::widen::wide_byte;
 use crate::width::Width;
+use faults::Refusal;
 ghost use mathlib.Core.Path.{_≡_};
 ghost use Prim.Native.Nat.{_+_, _-_, _≤_};
 ghost use lib.ListN.{length, take, drop};
@@ -23,7 +23,7 @@ pub enum SpanRead {
 }
 
 // How many of len bytes are left from `at` on: none past the end.
-pub(crate) fn left(len: usize, at: usize) -> usize
+pub fn left(len: usize, at: usize) -> usize
     ensures { λ r. ⌜ r ≡ len - at ⌝ }
 {
     if at <= len { len - at } else { 0 }

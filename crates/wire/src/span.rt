@@ -1,6 +1,6 @@
 // Where the bytes of a field stand in a slice. A span is reached by its methods alone.
-use crate::fault::Refusal;
 use crate::measure::Measure;
+use faults::Refusal;
 ghost use mathlib.Core.Path.{_≡_};
 ghost use Prim.Native.Nat.{_+_};
 ghost use lib.Dec.{leb};

@@ -1,6 +1,6 @@
 -- The end is that of the record that was read. Assumes nothing.
 use Rattle.attest.specs.Answers.{tpmlPcrSelectionAnswer}
-use Rattle.records.proofs.ByKind.{needs, ending}
+use Rattle.format.proofs.Numbered.{needs, ending}
 use Rattle.records.proofs.kind.tpml_pcr_selection_end.Tie as tie
 
 pub tpml-pcr-selection-end-spec : {M : Type 1} → Rattle.records.proofs.kind.tpml_pcr_selection_end.Statement.statement M

@@ -1,6 +1,6 @@
 -- The end is that of the record that was read. Assumes nothing.
 use Rattle.attest.specs.Answers.{tpmsAttestAnswer}
-use Rattle.records.proofs.ByKind.{needs, ending}
+use Rattle.format.proofs.Numbered.{needs, ending}
 use Rattle.records.proofs.kind.tpms_attest_end.Tie as tie
 
 pub tpms-attest-end-spec : {M : Type 1} → Rattle.records.proofs.kind.tpms_attest_end.Statement.statement M

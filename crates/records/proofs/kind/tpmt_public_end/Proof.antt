@@ -1,6 +1,6 @@
 -- The end is that of the record that was read. Assumes nothing.
 use Rattle.keys.specs.Answers.{tpmtPublicAnswer}
-use Rattle.records.proofs.ByKind.{needs, ending}
+use Rattle.format.proofs.Numbered.{needs, ending}
 use Rattle.records.proofs.kind.tpmt_public_end.Tie as tie
 
 pub tpmt-public-end-spec : {M : Type 1} → Rattle.records.proofs.kind.tpmt_public_end.Statement.statement M

@@ -1,6 +1,6 @@
 -- The end is that of the record that was read. Assumes nothing.
 use Rattle.sensitive.specs.Answers.{tpmtSensitiveAnswer}
-use Rattle.records.proofs.ByKind.{needs, ending}
+use Rattle.format.proofs.Numbered.{needs, ending}
 use Rattle.records.proofs.kind.tpmt_sensitive_end.Tie as tie
 
 pub tpmt-sensitive-end-spec : {M : Type 1} → Rattle.records.proofs.kind.tpmt_sensitive_end.Statement.statement M

@@ -1,0 +1,83 @@
+-- A lent buffer, written from its start: what the answer says of it, whatever was to be written. Assumes nothing.
+use Prim.Native.Nat.{ℕ, _≤_, _<_}
+use native.Mathlib.Nat.{zero-add}
+use native.Mathlib.Omega.{arith}
+use mathlib.Core.Path.{_≡_, refl, sym, ap, _∙_}
+use mathlib.Core.Logic.{_⊎_, inl, inr}
+use mathlib.Core.Bool.{Bool, true, false}
+use mathlib.Core.List.{List, _++_}
+use lib.ListN.{length, drop, length-append, length-drop}
+use lib.Seq.{drop-at}
+use lib.Dec.{leb}
+use borrow.Author.Tests.{leb-true, leb-false}
+use Rattle.faults.specs.declared.Refusal.{Refusal}
+use Rattle.faults.specs.Faults.{noRoom}
+use Rattle.wire.specs.Reading.{Ans, found, refused}
+use Rattle.wire.specs.Filling.{written, filled}
+use Rattle.wire.proofs.Steps.{found-refused, found-same, refused-same}
+use Rattle.wire.proofs.Filling.{fits-put, fits-not}
+
+module _ (old : List ℕ) where
+  -- bytes for which there is room are put at the front
+  pub room-is-used : (a : Ans (List ℕ)) {bs : List ℕ} → a ≡ found bs → length bs ≤ length old
+      → (written 0 a old ≡ found (length bs)) × (filled 0 a old ≡ bs ++ drop (length bs) old)
+  room-is-used a {bs} e h =
+      let (size, held) = fits-put 0 bs old refl (omega arith) (ap (λ n. bs ++ drop n old) (sym (zero-add (length bs)))) in
+      (ap (λ a. written 0 a old) e ∙ sym size, ap (λ a. filled 0 a old) e ∙ sym held)
+
+  -- bytes for which there is none are refused, and leave all as it was
+  pub no-room-is-refused : (a : Ans (List ℕ)) {bs : List ℕ} → a ≡ found bs → length old < length bs
+      → (written 0 a old ≡ refused (noRoom 0 (length bs))) × (filled 0 a old ≡ old)
+  no-room-is-refused a {bs} e h =
+      let (answer, kept) = fits-not 0 bs old refl (omega arith) in
+      (ap (λ a. written 0 a old) e ∙ sym answer, ap (λ a. filled 0 a old) e ∙ sym kept)
+
+  -- there is room or there is none
+  by-room : {C : Type 0} (bs : List ℕ) → (length bs ≤ length old → C) → (length old < length bs → C) → C
+  by-room {C} bs some none = go (leb (length bs) (length old)) refl
+    where
+      go : (t : Bool) → leb (length bs) (length old) ≡ t → C
+      go true e = some (leb-true (length bs) (length old) e)
+      go false e = none (leb-false (length bs) (length old) e)
+
+  -- a size that is answered is that of the bytes that were put
+  pub size-is-of-bytes : (a : Ans (List ℕ)) {n : ℕ} → written 0 a old ≡ found n
+      → (bs : List ℕ) × (a ≡ found bs) × (length bs ≡ n) × (n ≤ length old) × (filled 0 a old ≡ bs ++ drop n old)
+  size-is-of-bytes (found bs) {n} p =
+      by-room bs
+      (λ h. let (size, held) = room-is-used (found bs) refl h in
+      let same : length bs ≡ n = found-same (sym size ∙ p) in
+      (bs, refl, same, omega arith, held ∙ ap (λ m. bs ++ drop m old) same))
+      (λ h. absurd (found-refused (sym (no-room-is-refused (found bs) refl h .0) ∙ p)))
+  size-is-of-bytes (refused f) p = absurd (found-refused p)
+
+  -- a refusal is that of what was to be written, or there was no room for it
+  pub refusal-or-no-room : (a : Ans (List ℕ)) {f : Refusal} → written 0 a old ≡ refused f
+      → (a ≡ refused f) ⊎ ((bs : List ℕ) × (a ≡ found bs) × (length old < length bs) × (f ≡ noRoom 0 (length bs)))
+  refusal-or-no-room (found bs) p =
+      by-room bs
+      (λ h. absurd (found-refused (sym p ∙ room-is-used (found bs) refl h .0)))
+      (λ h. inr (bs, refl, h, refused-same (sym p ∙ no-room-is-refused (found bs) refl h .0)))
+  refusal-or-no-room (refused g) p = inl (ap refused (refused-same p))
+
+  -- what is refused leaves all as it was
+  pub refusal-changes-nothing : (a : Ans (List ℕ)) {f : Refusal} → written 0 a old ≡ refused f → filled 0 a old ≡ old
+  refusal-changes-nothing (found bs) p =
+      by-room bs
+      (λ h. absurd (found-refused (sym p ∙ room-is-used (found bs) refl h .0)))
+      (λ h. no-room-is-refused (found bs) refl h .1)
+  refusal-changes-nothing (refused g) p = refl
+
+  -- the buffer is as long as it was
+  pub length-is-kept : (a : Ans (List ℕ)) → length (filled 0 a old) ≡ length old
+  length-is-kept (found bs) =
+      by-room bs
+      (λ h. ap length (room-is-used (found bs) refl h .1) ∙ omega (arith, length-append bs (drop (length bs) old), length-drop (length bs) old))
+      (λ h. ap length (no-room-is-refused (found bs) refl h .1))
+  length-is-kept (refused f) = refl
+
+  -- and as it was behind what was put
+  pub rest-is-kept : (a : Ans (List ℕ)) {n : ℕ} → written 0 a old ≡ found n → drop n (filled 0 a old) ≡ drop n old
+  rest-is-kept a {n} p =
+      let (bs, e, size, room, held) = size-is-of-bytes a p in
+      ap (λ l. drop n l) held ∙ drop-at bs (drop n old) n size

@@ -1,0 +1,6 @@
+pub mod Walked
+pub mod Lent
+pub mod Begun
+pub mod Laid
+pub mod Rewritten
+pub mod Writers
