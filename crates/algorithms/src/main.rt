@@ -1,6 +1,6 @@
 // Tries all 65,536 algorithm codes, and writes those that are read, and how many they are.
-use format::codes::TpmAlgId;
-use format::codes::TpmAlgIdRead;
+use codes::TpmAlgId;
+use codes::TpmAlgIdRead;
 ghost use Prim.Native.Nat.{_+_, _≤_, _<_};
 
 fn is_read(high: u8, low: u8) -> bool {

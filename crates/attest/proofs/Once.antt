@@ -2,8 +2,8 @@
 use mathlib.Core.Path.{refl}
 use mathlib.Core.List.{[], _∷_}
 use Rattle.wire.proofs.Once.{Injective, Once, number-once, span-once, both, fields, holds, union, answers}
-use Rattle.format.specs.Codes.{attestNv, attestCommandAudit, attestSessionAudit, attestCertify, attestQuote, attestTime, attestCreation, attestNvDigest}
-use Rattle.format.proofs.Once.{tpm-alg-id-once, tpm-st-once}
+use Rattle.codes.specs.Codes.{attestNv, attestCommandAudit, attestSessionAudit, attestCertify, attestQuote, attestTime, attestCreation, attestNvDigest}
+use Rattle.codes.proofs.Once.{tpm-alg-id-once, tpm-st-once}
 use Rattle.attest.specs.declared.list.TpmlPcrSelectionRead.{TpmlPcrSelectionRead}
 use Rattle.attest.specs.declared.tpms.TpmsClockInfoRead.{TpmsClockInfoRead}
 use Rattle.attest.specs.declared.tpms.TpmsTimeInfoRead.{TpmsTimeInfoRead}

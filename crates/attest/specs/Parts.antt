@@ -2,7 +2,7 @@
 use mathlib.Core.List.{List, [], _∷_, _++_}
 use Rattle.wire.specs.Answers.{spanPart}
 use Rattle.wire.specs.Reading.{Part, num, tag}
-use Rattle.format.specs.Codes.{attestNv, attestCommandAudit, attestSessionAudit, attestCertify, attestQuote, attestTime, attestCreation, attestNvDigest}
+use Rattle.codes.specs.Codes.{attestNv, attestCommandAudit, attestSessionAudit, attestCertify, attestQuote, attestTime, attestCreation, attestNvDigest}
 use Rattle.attest.specs.declared.list.TpmlPcrSelection.{TpmlPcrSelection}
 use Rattle.attest.specs.declared.tpms.TpmsClockInfo.{TpmsClockInfo}
 use Rattle.attest.specs.declared.tpms.TpmsTimeInfo.{TpmsTimeInfo}

@@ -1,16 +1,16 @@
 // The structures that an attestation holds.
 use crate::list::TpmlPcrSelection;
 use crate::list::TpmlPcrSelectionRead;
+use codes::TpmAlgId;
+use codes::TpmAlgIdRead;
+use codes::uint::Uint8Read;
+use codes::uint::Uint16Read;
+use codes::uint::Uint32Read;
+use codes::uint::uint16;
+use codes::uint::uint32;
+use codes::uint::yes_no;
 use faults::Refusal;
-use format::codes::TpmAlgId;
-use format::codes::TpmAlgIdRead;
 use format::limits;
-use format::uint::Uint8Read;
-use format::uint::Uint16Read;
-use format::uint::Uint32Read;
-use format::uint::uint16;
-use format::uint::uint32;
-use format::uint::yes_no;
 use steps::walk::Walk;
 use wire::read::NumberRead;
 use wire::read::SpanRead;

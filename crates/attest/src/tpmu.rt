@@ -15,9 +15,10 @@ use crate::tpms::TpmsSessionAuditInfo;
 use crate::tpms::TpmsSessionAuditInfoRead;
 use crate::tpms::TpmsTimeAttestInfo;
 use crate::tpms::TpmsTimeAttestInfoRead;
+use codes::TpmSt;
+use codes::registry;
 use faults::Refusal;
-use format::codes::TpmSt;
-use format::registry;
+use format::arms::attest_arm;
 use steps::walk::Walk;
 use wire::widen::wide;
 ghost use mathlib.Core.Path.{_≡_};
@@ -114,7 +115,7 @@ impl TpmuAttest {
     pub fn walk_tagged(self, tag: TpmSt, w: Walk, src: &[u8], out: &mut [u8]) -> Walk
         ensures { λ r. ⌜ Walks 7 (tpmuAttest (tag .0)) (tpmuAttestParts self) (tpmuAttestLists self) (now (src .entry)) (here w (now (out .entry))) (here r (now (out .exit))) ⌝ }
     {
-        let v = w.due(tag.0, tag.attest_arm(), self.matches_tag(tag));
+        let v = w.due(tag.0, attest_arm(tag), self.matches_tag(tag));
         match self {
             Self::Certify(x) => x.walk(v, src, out),
             Self::Creation(x) => x.walk(v, src, out),

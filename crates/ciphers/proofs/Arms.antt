@@ -14,8 +14,8 @@ use Rattle.wire.specs.Reading.{span, tag, Ans, Parsed, parsed, also, piece, rea
 use Rattle.wire.proofs.Steps.{next-found, parsed-same}
 use Rattle.wire.proofs.Search.{known, Shows, shown, by-whole, chosen, rests}
 use Rattle.format.specs.Kinds.{digestOf, tpmuHaArm, tpmuHaBody, tpmuHa}
-use Rattle.format.specs.declared.codes.DigestLen.{DigestLen}
-use Rattle.format.specs.Answers.{digestChoice}
+use Rattle.codes.specs.declared.DigestLen.{DigestLen}
+use Rattle.codes.specs.Answers.{digestChoice}
 use Rattle.format.proofs.Tables.{digest-body}
 
 -- a digest's arm holds as many bytes as its algorithm has

@@ -3,8 +3,8 @@ use Prim.Native.Nat.{zero, suc}
 use mathlib.Core.Path.{refl}
 use mathlib.Core.List.{[], _∷_}
 use Rattle.wire.proofs.Once.{Injective, Once, number-once, span-once, both, fields, holds, bare, tagged, union, answers}
-use Rattle.format.specs.Codes.{aes, xor, null, sm4, camellia}
-use Rattle.format.proofs.Once.{tpm-alg-id-once}
+use Rattle.codes.specs.Codes.{aes, xor, null, sm4, camellia}
+use Rattle.codes.proofs.Once.{tpm-alg-id-once}
 use Rattle.ciphers.specs.declared.tpmu.TpmuHa.{TpmuHa}
 use Rattle.ciphers.specs.declared.tpmu.TpmuSymKeyBits.{TpmuSymKeyBits}
 use Rattle.ciphers.specs.declared.tpmu.TpmuSymMode.{TpmuSymMode}

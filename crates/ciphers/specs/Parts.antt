@@ -2,7 +2,7 @@
 use mathlib.Core.List.{List, [], _∷_, _++_}
 use Rattle.wire.specs.Answers.{lenOf, spanPart}
 use Rattle.wire.specs.Reading.{Part, num, tag}
-use Rattle.format.specs.Codes.{aes, xor, null, sm4, camellia}
+use Rattle.codes.specs.Codes.{aes, xor, null, sm4, camellia}
 use Rattle.format.specs.Kinds.{empty, digestOf}
 use Rattle.ciphers.specs.declared.tpmu.TpmuHa.{TpmuHa}
 use Rattle.ciphers.specs.declared.tpmu.TpmuSymKeyBits.{TpmuSymKeyBits}

@@ -1,12 +1,15 @@
 // The unions of kinds 1 and 2, with the calls that a union has: `unmarshal_tagged` reads the arm that the selector chooses, `matches_tag` says whether
 // the payload is that arm, and `walk_tagged` asks it where the arm is due and then goes over what is held.
+use codes::DigestLen;
+use codes::TpmAlgId;
+use codes::TpmAlgIdRead;
+use codes::registry;
+use codes::uint::Uint16Read;
+use codes::uint::uint16;
 use faults::Refusal;
-use format::codes::DigestLen;
-use format::codes::TpmAlgId;
-use format::codes::TpmAlgIdRead;
-use format::registry;
-use format::uint::Uint16Read;
-use format::uint::uint16;
+use format::arms::ha_arm;
+use format::arms::sym_key_bits_arm;
+use format::arms::sym_mode_arm;
 use steps::walk::Walk;
 use wire::read::SpanRead;
 use wire::read::plain;
@@ -91,7 +94,7 @@ impl TpmuHa {
     pub fn walk_tagged(self, tag: TpmAlgId, w: Walk, src: &[u8], out: &mut [u8]) -> Walk
         ensures { λ r. ⌜ Walks 2 (tpmuHa (tag .0)) (tpmuHaParts self) [] (now (src .entry)) (here w (now (out .entry))) (here r (now (out .exit))) ⌝ }
     {
-        let chosen = tag.ha_arm();
+        let chosen = ha_arm(tag);
         let v = w.due(tag.0, chosen, self.matches_tag(tag));
         match self {
             Self::Null => v,
@@ -143,7 +146,7 @@ impl TpmuSymKeyBits {
     pub fn walk_tagged(self, tag: TpmAlgId, w: Walk, src: &[u8], out: &mut [u8]) -> Walk
         ensures { λ r. ⌜ Walks 2 (tpmuSymKeyBits (tag .0)) (tpmuSymKeyBitsParts self) [] (now (src .entry)) (here w (now (out .entry))) (here r (now (out .exit))) ⌝ }
     {
-        let v = w.due(tag.0, tag.sym_key_bits_arm(), self.matches_tag(tag));
+        let v = w.due(tag.0, sym_key_bits_arm(tag), self.matches_tag(tag));
         match self {
             Self::Aes(x) => v.uint16(x, out),
             Self::Sm4(x) => v.uint16(x, out),
@@ -197,7 +200,7 @@ impl TpmuSymMode {
     pub fn walk_tagged(self, tag: TpmAlgId, w: Walk, src: &[u8], out: &mut [u8]) -> Walk
         ensures { λ r. ⌜ Walks 2 (tpmuSymMode (tag .0)) (tpmuSymModeParts self) [] (now (src .entry)) (here w (now (out .entry))) (here r (now (out .exit))) ⌝ }
     {
-        let v = w.due(tag.0, tag.sym_mode_arm(), self.matches_tag(tag));
+        let v = w.due(tag.0, sym_mode_arm(tag), self.matches_tag(tag));
         match self {
             Self::Aes(x) => v.algorithm(x, out),
             Self::Sm4(x) => v.algorithm(x, out),

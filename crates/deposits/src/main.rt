@@ -1,8 +1,8 @@
 // Lists every deposit on standard input: two bytes that say how long it is, then the deposit, and then the next. Behind the listing of a
 // record that was read comes the line `again`, with the bytes that it is written as.
+use codes::uint::Uint16Read;
+use codes::uint::uint16;
 use copies::walk::copy;
-use format::uint::Uint16Read;
-use format::uint::uint16;
 use listing::deposit::LISTING_ROOM;
 use listing::deposit::list_deposit;
 use text::put::put_hex;

@@ -12,7 +12,7 @@ use Rattle.wire.specs.Sizes.{AtMost, Reaches, Greatest}
 use Rattle.wire.specs.Unions.{Row, bodyOf, union}
 use Rattle.wire.proofs.Sizes.{stop-most, no-arm-most, arm-most, number-most, plain-most, buffer-most, then-most, most-wider, stop-reaches, arm-reaches, number-reaches, plain-reaches, buffer-reaches, then-reaches}
 use Rattle.format.specs.declared.list.ListOf.the-variants.{PcrSelection}
-use Rattle.format.specs.Codes.{algorithms, attestations, isAlgorithm, isAttestation, alg, curve, attestation, yesNo, magic}
+use Rattle.codes.specs.Codes.{algorithms, attestations, isAlgorithm, isAttestation, alg, curve, attestation, yesNo, magic}
 use Rattle.format.specs.Kinds.{tpmuHaTable, tpmuAsymSchemeTable, tpmuSigSchemeTable, tpmuKeyedhashSchemeTable, tpmuKdfSchemeTable, tpmuSymKeyBitsTable, tpmuSymModeTable, tpmuPublicParmsTable, tpmuPublicIdTable, tpmuSensitiveCompositeTable, tpmuSignatureTable, tpmuAttestTable, tpmuHaArm, tpmuAsymSchemeArm, tpmuSigSchemeArm, tpmuKeyedhashSchemeArm, tpmuKdfSchemeArm, tpmuSymKeyBitsArm, tpmuSymModeArm, tpmuPublicParmsArm, tpmuPublicIdArm, tpmuSensitiveCompositeArm, tpmuSignatureArm, tpmuAttestArm, tpmsSchemeHash, tpmsSchemeXor, tpmuHa, tpmuAsymScheme, tpmuSigScheme, tpmuKeyedhashScheme, tpmuKdfScheme, tpmuSymKeyBits, tpmuSymMode, tpmuPublicParms, tpmuPublicId, tpmuSensitiveComposite, tpmuSignature, tpmuAttest, tpmtHa, tpmtSymDef, tpmtKdfScheme, tpmtKeyedhashScheme, tpmtSigScheme, tpmtAsymScheme, tpmsRsaParms, tpmsEccParms, tpmsEccPoint, tpmsSignatureRsa, tpmsSignatureEcc, tpmtPublicParms, tpmtSignature, tpmtPublic, tpmtSensitive, tpmlPcrSelection, tpmsClockInfo, tpmsCertifyInfo, tpmsCreationInfo, tpmsQuoteInfo, tpmsCommandAuditInfo, tpmsSessionAuditInfo, tpmsTimeInfo, tpmsTimeAttestInfo, tpmsNvCertifyInfo, tpmsNvDigestCertifyInfo, tpmsAttest, kinds}
 use Rattle.format.proofs.Lists.{list-greatest}
 

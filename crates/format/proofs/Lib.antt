@@ -1,9 +1,5 @@
-pub mod Ranges
-pub mod Values
-pub mod Choices
 pub mod Tables
 pub mod Lists
 pub mod Greatest
 pub mod Numbered
 pub mod Samples
-pub mod Once

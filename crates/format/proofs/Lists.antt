@@ -12,7 +12,7 @@ use Rattle.wire.proofs.Begun.{begins, begins-some}
 use Rattle.wire.proofs.Sizes.{stop-most, number-most, buffer-most, counted-most, stop-reaches, number-reaches, buffer-reaches, counted-reaches}
 use Rattle.format.specs.declared.list.ListOf.{ListOf}
 use Rattle.format.specs.declared.list.ListOf.the-variants.{PcrSelection}
-use Rattle.format.specs.Codes.{algorithms, isAlgorithm, alg, sha256}
+use Rattle.codes.specs.Codes.{algorithms, isAlgorithm, alg, sha256}
 use Rattle.format.specs.Kinds.{tpmsPcrSelection, itemLayout, mostItems}
 
 -- ---- a line a list

@@ -11,7 +11,7 @@ use Rattle.faults.specs.Faults.{badKind}
 use Rattle.wire.specs.Reading.{Ans, refused, Parsed, read, endOf}
 use Rattle.wire.proofs.Search.{known}
 use Rattle.format.specs.Kinds.{kinds, isKind, layoutOf, readKind}
-use Rattle.format.proofs.Choices.{Unmatched}
+use Rattle.codes.proofs.Choices.{Unmatched}
 pub use borrow.Author.Needs.{needs}
 
 -- the last is 14

@@ -7,7 +7,7 @@ use Rattle.faults.specs.Faults.{short, unknownCode, noSuchArm, tooLong, tooMany
 use Rattle.wire.specs.Bytes.{be}
 use Rattle.wire.specs.Layout.{_then_}
 use Rattle.wire.specs.Reading.{num, tag, span, Ans, refused, Parsed, parsed, piece, field, list, read}
-use Rattle.format.specs.Codes.{algorithms, curves, isAlgorithm, isCurve, null, aes, rsaes, ecc, sha1}
+use Rattle.codes.specs.Codes.{algorithms, curves, isAlgorithm, isCurve, null, aes, rsaes, ecc, sha1}
 use Rattle.format.specs.Kinds.{tpmuHaArm, tpmuAsymSchemeArm, tpmuKdfSchemeArm, tpmuSymKeyBitsArm, tpmuSymModeArm, tpmuPublicParmsArm, tpmuPublicIdArm, empty, digestOf, tpmsSchemeHash, tpmuHa, tpmuAsymScheme, tpmuKdfScheme, tpmuSymKeyBits, tpmuSymMode, tpmuPublicParms, tpmuPublicId, tpmtHa, tpmtSymDef, tpmtKdfScheme, tpmtAsymScheme, tpmsEccParms, tpmsEccPoint, tpmtPublic, tpmsPcrSelection, tpmlPcrSelection, kinds, layoutOf, readKind}
 
 -- a kind, some bytes, and the answer to them

@@ -8,8 +8,8 @@ use Rattle.wire.specs.declared.choice.Choice.the-variants.{Nothing, The}
 use Rattle.wire.specs.Layout.{Layout, stop, plain}
 use Rattle.wire.specs.Unions.{Row, bodyOf}
 use Rattle.format.specs.Kinds.{empty, digestOf, tpmsSchemeHash, tpmuHaTable, tpmuAsymSchemeTable, tpmuSigSchemeTable, tpmuKeyedhashSchemeTable, tpmuKdfSchemeTable, tpmuSymKeyBitsTable, tpmuSymModeTable, tpmuPublicParmsTable, tpmuPublicIdTable, tpmuSensitiveCompositeTable, tpmuSignatureTable, tpmuAttestTable, tpmuHaArm, tpmuHaBody, tpmuSigSchemeArm, tpmuSigSchemeBody, tpmuSymKeyBitsArm, tpmuSymModeArm, tpmuPublicParmsArm, tpmuPublicIdArm, tpmuAttestArm}
-use Rattle.format.specs.Codes.{member, attestations, isAttestation}
-use Rattle.format.proofs.Choices.{chosen-has, chosen-listed, none-listed}
+use Rattle.codes.specs.Codes.{member, attestations, isAttestation}
+use Rattle.codes.proofs.Choices.{chosen-has, chosen-listed, none-listed}
 
 -- each row's arm holds what the row says: rows that choose one arm hold the same
 abbrev pub Agrees : List Row → Type 0

@@ -11,7 +11,9 @@ use Rattle.wire.specs.Reading.{Reader, Parsed, refused, read}
 use Rattle.wire.specs.Unions.{Row, row, own, armOf, bodyOf, union}
 use Rattle.format.specs.declared.list.ListOf.{ListOf}
 use Rattle.format.specs.declared.list.ListOf.the-variants.{PcrSelection}
-use Rattle.format.specs.Codes.{alg, curve, attestation, yesNo, magic, rsa, sha1, hmac, aes, mgf1, keyedHash, xor, sha256, sha384, sha512, null, sm3-256, sm4, rsassa, rsaes, rsapss, oaep, ecdsa, ecdh, ecdaa, sm2, ecschnorr, ecmqv, kdf1-sp800-56a, kdf2, kdf1-sp800-108, ecc, symCipher, camellia, sha3-256, sha3-384, sha3-512, shake256-192, shake256-256, shake256-512, attestNv, attestCommandAudit, attestSessionAudit, attestCertify, attestQuote, attestTime, attestCreation, attestNvDigest}
+pub use Rattle.codes.specs.Digests.{empty, digestOf, tpmuHaTable}
+unfoldable pub use Rattle.codes.specs.Digests.{tpmuHaArm}
+use Rattle.codes.specs.Codes.{alg, curve, attestation, yesNo, magic, rsa, sha1, hmac, aes, mgf1, keyedHash, xor, sha256, sha384, sha512, null, sm3-256, sm4, rsassa, rsaes, rsapss, oaep, ecdsa, ecdh, ecdaa, sm2, ecschnorr, ecmqv, kdf1-sp800-56a, kdf2, kdf1-sp800-108, ecc, symCipher, camellia, sha3-256, sha3-384, sha3-512, shake256-192, shake256-256, shake256-512, attestNv, attestCommandAudit, attestSessionAudit, attestCertify, attestQuote, attestTime, attestCreation, attestNvDigest}
 
 -- ---- limits of the buffers, in bytes
 
@@ -44,14 +46,6 @@ nvContents l = buffer 2 2048 l
 
 -- ---- the arms of unions: where several selectors choose one arm, it has a number of its own; elsewhere it has its selector's code
 
--- the empty arm
-abbrev pub empty : ℕ
-empty = 0
-
--- a digest of n bytes: one more than its length, so that no digest is the empty arm
-abbrev pub digestOf : ℕ → ℕ
-digestOf n = suc n
-
 -- a hash code; and the signing scheme's Hmac arm, which holds one too and is another arm
 abbrev pub hash : ℕ
 hash = 1
@@ -69,29 +63,7 @@ tpmsSchemeHash = one 2 alg
 unfoldable pub tpmsSchemeXor : Layout
 tpmsSchemeXor = number 2 alg (λ hashAlg. one 2 alg)
 
--- TPMU_HA: a plain digest as long as its algorithm has it, or nothing
-abbrev pub digestRow : (selector n : ℕ) → Row
-digestRow v n = row v (digestOf n) (plain n stop)
-
-abbrev pub tpmuHaTable : List Row
-tpmuHaTable =
-    digestRow sha1 20
-    ∷ digestRow shake256-192 24
-    ∷ digestRow sha256 32
-    ∷ digestRow sm3-256 32
-    ∷ digestRow sha3-256 32
-    ∷ digestRow shake256-256 32
-    ∷ digestRow sha384 48
-    ∷ digestRow sha3-384 48
-    ∷ digestRow sha512 64
-    ∷ digestRow sha3-512 64
-    ∷ digestRow shake256-512 64
-    ∷ row null empty stop
-    ∷ []
-
-unfoldable pub tpmuHaArm : ℕ → Choice
-tpmuHaArm v = armOf tpmuHaTable v
-
+-- TPMU_HA: a plain digest as long as its algorithm has it, or nothing; its table is with the codes
 abbrev pub tpmuHaBody : ℕ → Layout
 tpmuHaBody t = bodyOf tpmuHaTable t
 

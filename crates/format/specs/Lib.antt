@@ -1,3 +1,1 @@
-pub mod Codes
 pub mod Kinds
-pub mod Answers

@@ -3,8 +3,8 @@ use mathlib.Core.Path.{refl}
 use mathlib.Core.List.{[], _∷_}
 use Rattle.wire.proofs.Once.{Injective, Once, number-once, span-once, both, fields, holds, bare, union, answers}
 use Rattle.wire.specs.Reading.{num}
-use Rattle.format.specs.Codes.{rsa, keyedHash, null, ecc, symCipher}
-use Rattle.format.proofs.Once.{tpm-alg-id-once}
+use Rattle.codes.specs.Codes.{rsa, keyedHash, null, ecc, symCipher}
+use Rattle.codes.proofs.Once.{tpm-alg-id-once}
 use Rattle.parameters.proofs.Once.{tpmu-public-parms-once}
 use Rattle.keys.specs.declared.tpms.TpmsEccPointRead.{TpmsEccPointRead}
 use Rattle.keys.specs.declared.tpmu.TpmuPublicId.{TpmuPublicId}

@@ -2,7 +2,7 @@
 use mathlib.Core.List.{List, [], _∷_, _++_}
 use Rattle.wire.specs.Answers.{spanPart}
 use Rattle.wire.specs.Reading.{Part, num, tag}
-use Rattle.format.specs.Codes.{rsa, keyedHash, null, ecc, symCipher}
+use Rattle.codes.specs.Codes.{rsa, keyedHash, null, ecc, symCipher}
 use Rattle.parameters.specs.Parts.{tpmuPublicParmsParts}
 use Rattle.keys.specs.declared.tpms.TpmsEccPoint.{TpmsEccPoint}
 use Rattle.keys.specs.declared.tpmu.TpmuPublicId.{TpmuPublicId}

@@ -1,12 +1,12 @@
 // Kind 11: the public area. It has the calls that a kind has (ciphers, tpmt.rt).
 use crate::tpmu::TpmuPublicId;
 use crate::tpmu::TpmuPublicIdRead;
+use codes::TpmAlgId;
+use codes::TpmAlgIdRead;
+use codes::uint::Uint32Read;
+use codes::uint::uint32;
 use faults::Refusal;
-use format::codes::TpmAlgId;
-use format::codes::TpmAlgIdRead;
 use format::limits;
-use format::uint::Uint32Read;
-use format::uint::uint32;
 use parameters::tpmu::TpmuPublicParms;
 use parameters::tpmu::TpmuPublicParmsRead;
 use steps::walk::Walk;

@@ -1,10 +1,11 @@
 // What is unique of a public area, by the type, as the parameters are. It has the calls that a union has (ciphers, tpmu.rt).
 use crate::tpms::TpmsEccPoint;
 use crate::tpms::TpmsEccPointRead;
+use codes::TpmAlgId;
+use codes::registry;
 use faults::Refusal;
-use format::codes::TpmAlgId;
+use format::arms::public_id_arm;
 use format::limits;
-use format::registry;
 use steps::walk::Walk;
 use wire::read::SpanRead;
 use wire::read::buffer;
@@ -76,7 +77,7 @@ impl TpmuPublicId {
     pub fn walk_tagged(self, tag: TpmAlgId, w: Walk, src: &[u8], out: &mut [u8]) -> Walk
         ensures { λ r. ⌜ Walks 3 (tpmuPublicId (tag .0)) (tpmuPublicIdParts self) [] (now (src .entry)) (here w (now (out .entry))) (here r (now (out .exit))) ⌝ }
     {
-        let v = w.due(tag.0, tag.public_id_arm(), self.matches_tag(tag));
+        let v = w.due(tag.0, public_id_arm(tag), self.matches_tag(tag));
         match self {
             Self::KeyedHash(x) => v.buffer(limits::MAX_DIGEST_SIZE, x, src, out),
             Self::SymCipher(x) => v.buffer(limits::MAX_SYM_KEY_BYTES, x, src, out),

@@ -15,7 +15,7 @@ use Rattle.wire.specs.Grammar.{Token, Spells, placed}
 use Rattle.wire.specs.Reading.{refused, parsed, read, field, piece}
 use Rattle.wire.specs.Refusals.{Refuses}
 use Rattle.wire.proofs.Answers.{measure-answer-once}
-use Rattle.format.specs.Codes.{isAlgorithm, algorithms}
+use Rattle.codes.specs.Codes.{isAlgorithm, algorithms}
 use Rattle.format.specs.Kinds.{tpmuSymKeyBitsArm, tpmuSymModeArm, isKind, kinds, tpmtSymDef, tpmuSymKeyBits, tpmuSymMode, layoutOf, readKind}
 use Rattle.wire.specs.Lines.{lines}
 use Rattle.records.proofs.Promises.{legal-is-read, first-is-refusal}

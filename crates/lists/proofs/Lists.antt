@@ -27,7 +27,7 @@ use Rattle.wire.proofs.Stand.{stands-left, stands-bytes}
 use Rattle.wire.proofs.Steps.{found-refused, found-same, parsed-same, next-found, when-found, field-found}
 use Rattle.wire.proofs.Then.{whole-same}
 use Rattle.wire.proofs.Written.{moved-found, cut-found}
-use Rattle.format.specs.Codes.{alg}
+use Rattle.codes.specs.Codes.{alg}
 use Rattle.format.specs.declared.list.ListOf.{ListOf}
 use Rattle.format.specs.declared.list.ListOf.the-variants.{PcrSelection}
 use Rattle.format.specs.Kinds.{tpmsPcrSelection, itemLayout, mostItems}

@@ -1,7 +1,7 @@
 -- The parts of an item determine it, and no two answers of its reader mean the same. Assumes nothing.
 use mathlib.Core.Path.{refl}
 use Rattle.wire.proofs.Once.{Injective, Once, span-once, both, fields, answers}
-use Rattle.format.proofs.Once.{tpm-alg-id-once}
+use Rattle.codes.proofs.Once.{tpm-alg-id-once}
 use Rattle.lists.specs.declared.list.TpmsPcrSelectionRead.{TpmsPcrSelectionRead}
 use Rattle.lists.specs.Items.{tpmsPcrSelectionParts, tpmsPcrSelectionAnswer}
 

@@ -2,10 +2,10 @@
 use crate::list::item_end;
 use crate::list::items_end;
 use crate::list::judge_list;
+use codes::uint::Uint32Read;
+use codes::uint::uint32;
 use faults::Refusal;
 use format::list::ListOf;
-use format::uint::Uint32Read;
-use format::uint::uint32;
 use steps::walk::FOUND;
 use steps::walk::Walk;
 use wire::measure::Measure;

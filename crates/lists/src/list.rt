@@ -1,10 +1,10 @@
 // Lists: a count, and so many items. Every list is a row of the format's table; what an item of each is stands here.
+use codes::TpmAlgId;
+use codes::TpmAlgIdRead;
+use codes::uint::Uint32Read;
+use codes::uint::uint32;
 use faults::Refusal;
-use format::codes::TpmAlgId;
-use format::codes::TpmAlgIdRead;
 use format::list::ListOf;
-use format::uint::Uint32Read;
-use format::uint::uint32;
 use steps::span::judged;
 use steps::span::put_part;
 use steps::walk::FAR;

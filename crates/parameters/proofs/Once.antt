@@ -2,8 +2,8 @@
 use mathlib.Core.Path.{refl}
 use mathlib.Core.List.{[], _∷_}
 use Rattle.wire.proofs.Once.{Injective, Once, number-once, both, fields, holds, bare, union, answers}
-use Rattle.format.specs.Codes.{rsa, keyedHash, null, ecc, symCipher}
-use Rattle.format.proofs.Once.{tpm-alg-id-once, tpm-ecc-curve-once}
+use Rattle.codes.specs.Codes.{rsa, keyedHash, null, ecc, symCipher}
+use Rattle.codes.proofs.Once.{tpm-alg-id-once, tpm-ecc-curve-once}
 use Rattle.ciphers.proofs.Once.{tpmt-sym-def-once}
 use Rattle.schemes.proofs.Once.{tpmt-kdf-scheme-once, tpmt-keyedhash-scheme-once, tpmt-rsa-scheme-once, tpmt-ecc-scheme-once}
 use Rattle.parameters.specs.declared.tpms.TpmsKeyedhashParmsRead.{TpmsKeyedhashParmsRead}

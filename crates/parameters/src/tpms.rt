@@ -1,13 +1,13 @@
 // The structures of parameters.
 use ciphers::tpmt::TpmtSymDef;
 use ciphers::tpmt::TpmtSymDefRead;
+use codes::TpmEccCurve;
+use codes::TpmEccCurveRead;
+use codes::uint::Uint16Read;
+use codes::uint::Uint32Read;
+use codes::uint::uint16;
+use codes::uint::uint32;
 use faults::Refusal;
-use format::codes::TpmEccCurve;
-use format::codes::TpmEccCurveRead;
-use format::uint::Uint16Read;
-use format::uint::Uint32Read;
-use format::uint::uint16;
-use format::uint::uint32;
 use schemes::tpmt::TpmtEccScheme;
 use schemes::tpmt::TpmtEccSchemeRead;
 use schemes::tpmt::TpmtKdfScheme;

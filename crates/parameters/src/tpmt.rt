@@ -1,9 +1,9 @@
 // Kind 9: a key's type, and its parameters. It has the calls that a kind has (ciphers, tpmt.rt).
 use crate::tpmu::TpmuPublicParms;
 use crate::tpmu::TpmuPublicParmsRead;
+use codes::TpmAlgId;
+use codes::TpmAlgIdRead;
 use faults::Refusal;
-use format::codes::TpmAlgId;
-use format::codes::TpmAlgIdRead;
 use steps::walk::Walk;
 use steps::walk::judging;
 use steps::walk::seeking;

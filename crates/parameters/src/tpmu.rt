@@ -7,9 +7,10 @@ use crate::tpms::TpmsRsaParms;
 use crate::tpms::TpmsRsaParmsRead;
 use crate::tpms::TpmsSymcipherParms;
 use crate::tpms::TpmsSymcipherParmsRead;
+use codes::TpmAlgId;
+use codes::registry;
 use faults::Refusal;
-use format::codes::TpmAlgId;
-use format::registry;
+use format::arms::public_parms_arm;
 use steps::walk::Walk;
 use wire::widen::wide;
 ghost use mathlib.Core.Path.{_≡_};
@@ -83,7 +84,7 @@ impl TpmuPublicParms {
     pub fn walk_tagged(self, tag: TpmAlgId, w: Walk, src: &[u8], out: &mut [u8]) -> Walk
         ensures { λ r. ⌜ Walks 13 (tpmuPublicParms (tag .0)) (tpmuPublicParmsParts self) [] (now (src .entry)) (here w (now (out .entry))) (here r (now (out .exit))) ⌝ }
     {
-        let v = w.due(tag.0, tag.public_parms_arm(), self.matches_tag(tag));
+        let v = w.due(tag.0, public_parms_arm(tag), self.matches_tag(tag));
         match self {
             Self::KeyedHash(x) => x.walk(v, src, out),
             Self::SymCipher(x) => x.walk(v, src, out),

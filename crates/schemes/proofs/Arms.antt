@@ -9,7 +9,7 @@ use Rattle.wire.specs.declared.choice.Choice.the-variants.{The}
 use Rattle.wire.specs.Reading.{tag, refused, read}
 use Rattle.wire.proofs.Search.{Shows, shown, front-no, chosen}
 use Rattle.format.specs.Kinds.{tpmuAsymSchemeTable, tpmuAsymSchemeArm, tpmuSigSchemeTable, tpmuSigSchemeArm, tpmsSchemeHash, tpmuSigSchemeBody, tpmuSigScheme}
-use Rattle.format.proofs.Choices.{chosen-has}
+use Rattle.codes.proofs.Choices.{chosen-has}
 use Rattle.format.proofs.Tables.{hash-body}
 
 -- an arm of the asymmetric schemes that is not empty holds a hash

@@ -2,9 +2,9 @@
 use mathlib.Core.Path.{refl}
 use mathlib.Core.List.{[], _∷_}
 use Rattle.wire.proofs.Once.{Injective, Once, both, fields, holds, bare, union, answers}
-use Rattle.format.specs.Codes.{hmac, mgf1, xor, null, kdf1-sp800-56a, kdf2, kdf1-sp800-108}
+use Rattle.codes.specs.Codes.{hmac, mgf1, xor, null, kdf1-sp800-56a, kdf2, kdf1-sp800-108}
 use Rattle.format.specs.Kinds.{empty, hash, hmacHash}
-use Rattle.format.proofs.Once.{tpm-alg-id-once}
+use Rattle.codes.proofs.Once.{tpm-alg-id-once}
 use Rattle.schemes.specs.declared.tpms.TpmsSchemeHashRead.{TpmsSchemeHashRead}
 use Rattle.schemes.specs.declared.tpms.TpmsSchemeXorRead.{TpmsSchemeXorRead}
 use Rattle.schemes.specs.declared.tpmu.TpmuAsymScheme.{TpmuAsymScheme}

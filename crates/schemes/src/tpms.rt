@@ -1,7 +1,7 @@
 // The structures that schemes hold.
+use codes::TpmAlgId;
+use codes::TpmAlgIdRead;
 use faults::Refusal;
-use format::codes::TpmAlgId;
-use format::codes::TpmAlgIdRead;
 use steps::walk::Walk;
 ghost use mathlib.Core.Path.{_≡_};
 ghost use mathlib.Core.List.{[]};

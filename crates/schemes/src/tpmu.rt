@@ -4,9 +4,13 @@ use crate::tpms::TpmsSchemeHashRead;
 use crate::tpms::TpmsSchemeHmac;
 use crate::tpms::TpmsSchemeXor;
 use crate::tpms::TpmsSchemeXorRead;
+use codes::TpmAlgId;
+use codes::registry;
 use faults::Refusal;
-use format::codes::TpmAlgId;
-use format::registry;
+use format::arms::asym_scheme_arm;
+use format::arms::kdf_scheme_arm;
+use format::arms::keyedhash_scheme_arm;
+use format::arms::sig_scheme_arm;
 use steps::walk::Walk;
 use wire::choice::Choice;
 use wire::widen::wide;
@@ -68,7 +72,7 @@ impl TpmuAsymScheme {
     pub fn unmarshal_tagged(tag: TpmAlgId, s: &[u8], at: usize) -> TpmuAsymSchemeRead
         ensures { λ r. ⌜ tpmuAsymSchemeAnswer r ≡ read (tpmuAsymScheme (tag .0)) (now (s .entry)) at ⌝ }
     {
-        match tag.asym_scheme_arm() {
+        match asym_scheme_arm(tag) {
             Choice::The(t) => {
                 if t == 0 {
                     return TpmuAsymSchemeRead::Found(Self::Null, at);
@@ -85,7 +89,7 @@ impl TpmuAsymScheme {
     pub fn matches_tag(self, tag: TpmAlgId) -> bool
         ensures { λ r. ⌜ r ≡ isArm (tpmuAsymSchemeArm (tag .0)) (held (tpmuAsymSchemeParts self)) ⌝ }
     {
-        let chosen = tag.asym_scheme_arm();
+        let chosen = asym_scheme_arm(tag);
         match self {
             Self::Hash(_) => chosen.is(1),
             Self::Null => chosen.is(0),
@@ -95,7 +99,7 @@ impl TpmuAsymScheme {
     pub fn walk_tagged(self, tag: TpmAlgId, w: Walk, src: &[u8], out: &mut [u8]) -> Walk
         ensures { λ r. ⌜ Walks 2 (tpmuAsymScheme (tag .0)) (tpmuAsymSchemeParts self) [] (now (src .entry)) (here w (now (out .entry))) (here r (now (out .exit))) ⌝ }
     {
-        let v = w.due(tag.0, tag.asym_scheme_arm(), self.matches_tag(tag));
+        let v = w.due(tag.0, asym_scheme_arm(tag), self.matches_tag(tag));
         match self {
             Self::Hash(x) => x.walk(v, src, out),
             Self::Null => v,
@@ -136,7 +140,7 @@ impl TpmuKeyedhashScheme {
     pub fn walk_tagged(self, tag: TpmAlgId, w: Walk, src: &[u8], out: &mut [u8]) -> Walk
         ensures { λ r. ⌜ Walks 3 (tpmuKeyedhashScheme (tag .0)) (tpmuKeyedhashSchemeParts self) [] (now (src .entry)) (here w (now (out .entry))) (here r (now (out .exit))) ⌝ }
     {
-        let v = w.due(tag.0, tag.keyedhash_scheme_arm(), self.matches_tag(tag));
+        let v = w.due(tag.0, keyedhash_scheme_arm(tag), self.matches_tag(tag));
         match self {
             Self::Hmac(x) => x.walk(v, src, out),
             Self::Xor(x) => x.walk(v, src, out),
@@ -149,7 +153,7 @@ impl TpmuSigScheme {
     pub fn unmarshal_tagged(tag: TpmAlgId, s: &[u8], at: usize) -> TpmuSigSchemeRead
         ensures { λ r. ⌜ tpmuSigSchemeAnswer r ≡ read (tpmuSigScheme (tag .0)) (now (s .entry)) at ⌝ }
     {
-        match tag.sig_scheme_arm() {
+        match sig_scheme_arm(tag) {
             Choice::The(t) => {
                 if t == 0 {
                     return TpmuSigSchemeRead::Found(Self::Null, at);
@@ -171,7 +175,7 @@ impl TpmuSigScheme {
     pub fn matches_tag(self, tag: TpmAlgId) -> bool
         ensures { λ r. ⌜ r ≡ isArm (tpmuSigSchemeArm (tag .0)) (held (tpmuSigSchemeParts self)) ⌝ }
     {
-        let chosen = tag.sig_scheme_arm();
+        let chosen = sig_scheme_arm(tag);
         match self {
             Self::Hash(_) => chosen.is(1),
             Self::Hmac(_) => chosen.is(2),
@@ -182,7 +186,7 @@ impl TpmuSigScheme {
     pub fn walk_tagged(self, tag: TpmAlgId, w: Walk, src: &[u8], out: &mut [u8]) -> Walk
         ensures { λ r. ⌜ Walks 2 (tpmuSigScheme (tag .0)) (tpmuSigSchemeParts self) [] (now (src .entry)) (here w (now (out .entry))) (here r (now (out .exit))) ⌝ }
     {
-        let v = w.due(tag.0, tag.sig_scheme_arm(), self.matches_tag(tag));
+        let v = w.due(tag.0, sig_scheme_arm(tag), self.matches_tag(tag));
         match self {
             Self::Hash(x) => x.walk(v, src, out),
             Self::Hmac(x) => x.walk(v, src, out),
@@ -240,7 +244,7 @@ impl TpmuKdfScheme {
     pub fn walk_tagged(self, tag: TpmAlgId, w: Walk, src: &[u8], out: &mut [u8]) -> Walk
         ensures { λ r. ⌜ Walks 2 (tpmuKdfScheme (tag .0)) (tpmuKdfSchemeParts self) [] (now (src .entry)) (here w (now (out .entry))) (here r (now (out .exit))) ⌝ }
     {
-        let v = w.due(tag.0, tag.kdf_scheme_arm(), self.matches_tag(tag));
+        let v = w.due(tag.0, kdf_scheme_arm(tag), self.matches_tag(tag));
         match self {
             Self::Mgf1(x) => x.walk(v, src, out),
             Self::Kdf1Sp800_56a(x) => x.walk(v, src, out),

@@ -2,8 +2,8 @@
 use mathlib.Core.Path.{refl}
 use mathlib.Core.List.{[], _∷_}
 use Rattle.wire.proofs.Once.{Injective, Once, span-once, both, fields, holds, union, answers}
-use Rattle.format.specs.Codes.{rsa, keyedHash, ecc, symCipher}
-use Rattle.format.proofs.Once.{tpm-alg-id-once}
+use Rattle.codes.specs.Codes.{rsa, keyedHash, ecc, symCipher}
+use Rattle.codes.proofs.Once.{tpm-alg-id-once}
 use Rattle.sensitive.specs.declared.tpmu.TpmuSensitiveComposite.{TpmuSensitiveComposite}
 use Rattle.sensitive.specs.declared.tpmu.TpmuSensitiveCompositeRead.{TpmuSensitiveCompositeRead}
 use Rattle.sensitive.specs.declared.tpmt.TpmtSensitiveRead.{TpmtSensitiveRead}

@@ -2,7 +2,7 @@
 use mathlib.Core.List.{List, [], _∷_}
 use Rattle.wire.specs.Answers.{spanPart}
 use Rattle.wire.specs.Reading.{Part, num, tag}
-use Rattle.format.specs.Codes.{rsa, keyedHash, ecc, symCipher}
+use Rattle.codes.specs.Codes.{rsa, keyedHash, ecc, symCipher}
 use Rattle.sensitive.specs.declared.tpmu.TpmuSensitiveComposite.{TpmuSensitiveComposite}
 use Rattle.sensitive.specs.declared.tpmt.TpmtSensitive.{TpmtSensitive}
 

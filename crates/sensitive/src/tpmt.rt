@@ -1,9 +1,9 @@
 // Kind 12: the sensitive area. It has the calls that a kind has (ciphers, tpmt.rt).
 use crate::tpmu::TpmuSensitiveComposite;
 use crate::tpmu::TpmuSensitiveCompositeRead;
+use codes::TpmAlgId;
+use codes::TpmAlgIdRead;
 use faults::Refusal;
-use format::codes::TpmAlgId;
-use format::codes::TpmAlgIdRead;
 use format::limits;
 use steps::walk::Walk;
 use steps::walk::judging;

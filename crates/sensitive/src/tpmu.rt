@@ -1,8 +1,9 @@
 // What a sensitive area keeps, by its type. The union has no Null. It has the calls that a union has (ciphers, tpmu.rt).
+use codes::TpmAlgId;
+use codes::registry;
 use faults::Refusal;
-use format::codes::TpmAlgId;
+use format::arms::sensitive_composite_arm;
 use format::limits;
-use format::registry;
 use steps::walk::Walk;
 use wire::read::SpanRead;
 use wire::read::buffer;
@@ -71,7 +72,7 @@ impl TpmuSensitiveComposite {
     pub fn walk_tagged(self, tag: TpmAlgId, w: Walk, src: &[u8], out: &mut [u8]) -> Walk
         ensures { λ r. ⌜ Walks 2 (tpmuSensitiveComposite (tag .0)) (tpmuSensitiveCompositeParts self) [] (now (src .entry)) (here w (now (out .entry))) (here r (now (out .exit))) ⌝ }
     {
-        let v = w.due(tag.0, tag.sensitive_composite_arm(), self.matches_tag(tag));
+        let v = w.due(tag.0, sensitive_composite_arm(tag), self.matches_tag(tag));
         match self {
             Self::Rsa(x) => v.buffer(limits::MAX_PRIVATE_KEY_RSA, x, src, out),
             Self::Ecc(x) => v.buffer(limits::MAX_ECC_KEY_BYTES, x, src, out),

@@ -2,8 +2,8 @@
 use mathlib.Core.Path.{refl}
 use mathlib.Core.List.{[], _∷_}
 use Rattle.wire.proofs.Once.{Injective, Once, span-once, both, fields, holds, bare, union, answers}
-use Rattle.format.specs.Codes.{hmac, null, rsassa, rsapss, ecdsa, ecdaa, sm2, ecschnorr}
-use Rattle.format.proofs.Once.{tpm-alg-id-once}
+use Rattle.codes.specs.Codes.{hmac, null, rsassa, rsapss, ecdsa, ecdaa, sm2, ecschnorr}
+use Rattle.codes.proofs.Once.{tpm-alg-id-once}
 use Rattle.ciphers.proofs.Once.{tpmt-ha-once}
 use Rattle.signatures.specs.declared.tpms.TpmsSignatureRsaRead.{TpmsSignatureRsaRead}
 use Rattle.signatures.specs.declared.tpms.TpmsSignatureEccRead.{TpmsSignatureEccRead}

@@ -2,7 +2,7 @@
 use mathlib.Core.List.{List, [], _∷_}
 use Rattle.wire.specs.Answers.{spanPart}
 use Rattle.wire.specs.Reading.{Part, num, tag}
-use Rattle.format.specs.Codes.{hmac, null, rsassa, rsapss, ecdsa, ecdaa, sm2, ecschnorr}
+use Rattle.codes.specs.Codes.{hmac, null, rsassa, rsapss, ecdsa, ecdaa, sm2, ecschnorr}
 use Rattle.ciphers.specs.Parts.{tpmtHaParts}
 use Rattle.signatures.specs.declared.tpms.TpmsSignatureRsa.{TpmsSignatureRsa}
 use Rattle.signatures.specs.declared.tpms.TpmsSignatureEcc.{TpmsSignatureEcc}

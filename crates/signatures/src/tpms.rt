@@ -1,7 +1,7 @@
 // The structures of signatures.
+use codes::TpmAlgId;
+use codes::TpmAlgIdRead;
 use faults::Refusal;
-use format::codes::TpmAlgId;
-use format::codes::TpmAlgIdRead;
 use format::limits;
 use steps::walk::Walk;
 use wire::read::SpanRead;

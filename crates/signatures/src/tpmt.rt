@@ -1,9 +1,9 @@
 // Kind 10: the selector and the signature. It has the calls that a kind has (ciphers, tpmt.rt).
 use crate::tpmu::TpmuSignature;
 use crate::tpmu::TpmuSignatureRead;
+use codes::TpmAlgId;
+use codes::TpmAlgIdRead;
 use faults::Refusal;
-use format::codes::TpmAlgId;
-use format::codes::TpmAlgIdRead;
 use steps::walk::Walk;
 use steps::walk::judging;
 use steps::walk::seeking;

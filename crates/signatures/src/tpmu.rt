@@ -5,9 +5,10 @@ use crate::tpms::TpmsSignatureRsa;
 use crate::tpms::TpmsSignatureRsaRead;
 use ciphers::tpmt::TpmtHa;
 use ciphers::tpmt::TpmtHaRead;
+use codes::TpmAlgId;
+use codes::registry;
 use faults::Refusal;
-use format::codes::TpmAlgId;
-use format::registry;
+use format::arms::signature_arm;
 use steps::walk::Walk;
 use wire::widen::wide;
 ghost use mathlib.Core.Path.{_≡_};
@@ -96,7 +97,7 @@ impl TpmuSignature {
     pub fn walk_tagged(self, tag: TpmAlgId, w: Walk, src: &[u8], out: &mut [u8]) -> Walk
         ensures { λ r. ⌜ Walks 4 (tpmuSignature (tag .0)) (tpmuSignatureParts self) [] (now (src .entry)) (here w (now (out .entry))) (here r (now (out .exit))) ⌝ }
     {
-        let v = w.due(tag.0, tag.signature_arm(), self.matches_tag(tag));
+        let v = w.due(tag.0, signature_arm(tag), self.matches_tag(tag));
         match self {
             Self::Rsassa(x) => x.walk(v, src, out),
             Self::Rsapss(x) => x.walk(v, src, out),

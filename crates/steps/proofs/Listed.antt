@@ -17,7 +17,7 @@ use Rattle.wire.specs.Writing.{cut, whole, lay}
 use Rattle.wire.proofs.Digits.{length-digits}
 use Rattle.wire.proofs.Steps.{found-same, parsed-same, next-found}
 use Rattle.wire.proofs.Written.{moved-found}
-use Rattle.format.specs.Codes.{alg}
+use Rattle.codes.specs.Codes.{alg}
 use Rattle.format.specs.declared.list.ListOf.{ListOf}
 use Rattle.format.specs.declared.list.ListOf.the-variants.{PcrSelection}
 use Rattle.format.specs.Kinds.{tpmsPcrSelection, itemLayout, mostItems}

@@ -17,7 +17,7 @@ use Rattle.wire.specs.Lines.{line, sayNumber}
 use Rattle.wire.specs.Reading.{found}
 use Rattle.wire.specs.Writing.{spelt}
 use Rattle.wire.proofs.Digits.{length-digits}
-use Rattle.format.specs.Codes.{isYesNo, isMagic}
+use Rattle.codes.specs.Codes.{isYesNo, isMagic}
 use Rattle.text.specs.declared.line.Word.{Word}
 use Rattle.text.specs.Text.{sayWord}
 use Rattle.steps.specs.declared.walk.Walk.{Walk}

@@ -15,7 +15,7 @@ use Rattle.wire.specs.Layout.{Rule, free, listed, fixed, lengthTo, countTo, all
 use Rattle.wire.specs.Reading.{Part, num, Ans, found, refused, next, also, left, Parsed, piece, field, walk, list, endOf, read}
 use Rattle.wire.specs.Writing.{whole}
 use Rattle.wire.proofs.Steps.{found-same, next-found, when-found}
-use Rattle.format.specs.Codes.{alg}
+use Rattle.codes.specs.Codes.{alg}
 use Rattle.format.specs.declared.list.ListOf.{ListOf}
 use Rattle.format.specs.Kinds.{tpmsPcrSelection, itemLayout, mostItems}
 use Rattle.format.proofs.Lists.{greatestItem, greatestList}

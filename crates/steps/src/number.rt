@@ -6,10 +6,10 @@ use crate::walk::Walk;
 use crate::walk::judging;
 use crate::walk::putting;
 use crate::walk::refusing;
+use codes::TpmAlgId;
+use codes::TpmEccCurve;
+use codes::TpmSt;
 use faults::Refusal;
-use format::codes::TpmAlgId;
-use format::codes::TpmEccCurve;
-use format::codes::TpmSt;
 use puts::write::put_number;
 use text::line::Word;
 use wire::choice::Choice;
@@ -26,7 +26,7 @@ ghost use Rattle.wire.specs.Answers.{widthOf};
 ghost use Rattle.wire.specs.Bytes.{digits};
 ghost use Rattle.wire.specs.Layout.{free};
 ghost use Rattle.wire.specs.Reading.{found};
-ghost use Rattle.format.specs.Codes.{alg, curve, attestation, yesNo, magic};
+ghost use Rattle.codes.specs.Codes.{alg, curve, attestation, yesNo, magic};
 ghost use Rattle.steps.specs.Walks.{here, judging, refusing, Moves, putOne, numberWalk, Numbers, Dues};
 
 fn byte(n: u8) -> u64

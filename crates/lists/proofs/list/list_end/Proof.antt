@@ -5,7 +5,7 @@ use native.Mathlib.Omega.{arith}
 use Rattle.wire.specs.Reading.{read}
 use Rattle.wire.proofs.Rest.{told}
 use Rattle.wire.proofs.Leaves.{list-items, list-long, list-short}
-use Rattle.format.specs.Answers.{uint32Answer}
+use Rattle.codes.specs.Answers.{uint32Answer}
 use Rattle.format.specs.Kinds.{itemLayout, mostItems}
 use Rattle.lists.proofs.list.list_end.Statement.{statement}
 use Rattle.lists.proofs.list.list_end.Tie as tie

@@ -3,7 +3,7 @@ use mathlib.Core.Path.{_∙_}
 use Rattle.wire.specs.Answers.{spanAnswer}
 use Rattle.wire.proofs.Search.{needs, shown, refuses, by-number, by-buffer, rests}
 use Rattle.format.specs.Kinds.{tpmsAttest}
-use Rattle.format.specs.Answers.{uint32Answer, tpmStAnswer}
+use Rattle.codes.specs.Answers.{uint32Answer, tpmStAnswer}
 use Rattle.attest.proofs.attestation.TpmsAttest.unmarshal.Tie as tie
 
 pub unmarshal-spec : {M : Type 1} → Rattle.attest.proofs.attestation.TpmsAttest.unmarshal.Statement.statement M

@@ -4,7 +4,7 @@ use native.Mathlib.Omega.{arith}
 use mathlib.Core.Path.{refl}
 use Rattle.wire.specs.declared.width.Width.the-variants.{Two, Four, Eight}
 use Rattle.wire.specs.Layout.{free}
-use Rattle.format.specs.Codes.{attestation, magic}
+use Rattle.codes.specs.Codes.{attestation, magic}
 use Rattle.format.specs.Kinds.{tpmsAttest}
 use Rattle.steps.proofs.Walked.{walks-number, walks-buffer, walks-then}
 use Rattle.attest.proofs.attestation.TpmsAttest.walk.Tie as tie

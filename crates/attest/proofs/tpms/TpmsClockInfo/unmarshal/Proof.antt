@@ -2,7 +2,7 @@
 use Rattle.wire.proofs.Search.{needs, finds, refuses, by-number, by-whole, rests}
 use Rattle.format.specs.Kinds.{tpmsClockInfo}
 use Rattle.wire.specs.Answers.{numberAnswer}
-use Rattle.format.specs.Answers.{uint32Answer, uint8Answer}
+use Rattle.codes.specs.Answers.{uint32Answer, uint8Answer}
 use Rattle.attest.proofs.tpms.TpmsClockInfo.unmarshal.Tie as tie
 
 pub unmarshal-spec : {M : Type 1} → Rattle.attest.proofs.tpms.TpmsClockInfo.unmarshal.Statement.statement M

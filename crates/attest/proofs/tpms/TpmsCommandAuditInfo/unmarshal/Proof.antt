@@ -2,7 +2,7 @@
 use Rattle.wire.proofs.Search.{needs, finds, refuses, by-number, by-buffer, by-whole, rests}
 use Rattle.format.specs.Kinds.{tpmsCommandAuditInfo}
 use Rattle.wire.specs.Answers.{numberAnswer, spanAnswer}
-use Rattle.format.specs.Answers.{tpmAlgIdAnswer}
+use Rattle.codes.specs.Answers.{tpmAlgIdAnswer}
 use Rattle.attest.proofs.tpms.TpmsCommandAuditInfo.unmarshal.Tie as tie
 
 pub unmarshal-spec : {M : Type 1} → Rattle.attest.proofs.tpms.TpmsCommandAuditInfo.unmarshal.Statement.statement M

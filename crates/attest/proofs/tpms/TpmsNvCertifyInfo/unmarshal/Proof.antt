@@ -2,7 +2,7 @@
 use Rattle.wire.proofs.Search.{needs, finds, refuses, by-number, by-buffer, by-whole, rests}
 use Rattle.format.specs.Kinds.{tpmsNvCertifyInfo}
 use Rattle.wire.specs.Answers.{spanAnswer}
-use Rattle.format.specs.Answers.{uint16Answer}
+use Rattle.codes.specs.Answers.{uint16Answer}
 use Rattle.attest.proofs.tpms.TpmsNvCertifyInfo.unmarshal.Tie as tie
 
 pub unmarshal-spec : {M : Type 1} → Rattle.attest.proofs.tpms.TpmsNvCertifyInfo.unmarshal.Statement.statement M

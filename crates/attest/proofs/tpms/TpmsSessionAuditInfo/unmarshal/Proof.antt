@@ -2,7 +2,7 @@
 use Rattle.wire.proofs.Search.{needs, finds, refuses, by-number, by-whole, rests}
 use Rattle.format.specs.Kinds.{tpmsSessionAuditInfo}
 use Rattle.wire.specs.Answers.{spanAnswer}
-use Rattle.format.specs.Answers.{uint8Answer}
+use Rattle.codes.specs.Answers.{uint8Answer}
 use Rattle.attest.proofs.tpms.TpmsSessionAuditInfo.unmarshal.Tie as tie
 
 pub unmarshal-spec : {M : Type 1} → Rattle.attest.proofs.tpms.TpmsSessionAuditInfo.unmarshal.Statement.statement M

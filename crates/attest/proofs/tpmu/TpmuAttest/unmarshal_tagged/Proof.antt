@@ -1,7 +1,7 @@
 -- The selector's code chooses the arm that the table has for it, or none. Assumes nothing.
 use Rattle.wire.proofs.Search.{needs, finds, refuses, by-whole, in-arm, no-arm, rests}
 use Rattle.format.specs.Kinds.{tpmuAttestTable, tpmuAttestArm, tpmuAttestBody, tpmuAttest}
-use Rattle.format.proofs.Choices.{none-chosen}
+use Rattle.codes.proofs.Choices.{none-chosen}
 use Rattle.attest.specs.Answers.{tpmsCertifyInfoAnswer, tpmsCreationInfoAnswer, tpmsQuoteInfoAnswer, tpmsCommandAuditInfoAnswer, tpmsSessionAuditInfoAnswer, tpmsTimeAttestInfoAnswer, tpmsNvCertifyInfoAnswer, tpmsNvDigestCertifyInfoAnswer}
 use Rattle.attest.proofs.tpmu.TpmuAttest.unmarshal_tagged.Tie as tie
 

@@ -1,6 +1,6 @@
 -- A digest is its arm where its length is the one that its algorithm has. Assumes nothing.
 use Rattle.wire.proofs.Search.{needs, is-arm-by, is-none-by}
-use Rattle.format.specs.Answers.{digestChoice}
+use Rattle.codes.specs.Answers.{digestChoice}
 use Rattle.ciphers.specs.Parts.{tpmuHaParts}
 use Rattle.ciphers.proofs.Arms.{digest-due, digest-missing, digest-not-due}
 use Rattle.ciphers.proofs.tpmu.TpmuHa.matches_tag.Tie as tie

@@ -1,7 +1,7 @@
 -- A digest is as long as its algorithm has it. Assumes nothing.
 use Rattle.wire.specs.Answers.{spanAnswer}
 use Rattle.wire.proofs.Search.{needs, finds, refuses, known, by-whole, chosen-by, no-arm, rests}
-use Rattle.format.specs.Answers.{digestChoice}
+use Rattle.codes.specs.Answers.{digestChoice}
 use Rattle.format.specs.Kinds.{tpmuHaArm, tpmuHaBody, tpmuHa}
 use Rattle.ciphers.proofs.Arms.{digest-found, digest-held}
 use Rattle.ciphers.proofs.tpmu.TpmuHa.unmarshal_tagged.Tie as tie

@@ -1,8 +1,8 @@
 -- The selector's code chooses the arm that the table has for it, or none. Assumes nothing.
 use Rattle.wire.proofs.Search.{needs, finds, refuses, by-whole, in-arm, no-arm, rests}
 use Rattle.format.specs.Kinds.{tpmuSymKeyBitsTable, tpmuSymKeyBitsArm, tpmuSymKeyBitsBody, tpmuSymKeyBits}
-use Rattle.format.proofs.Choices.{none-chosen}
-use Rattle.format.specs.Answers.{uint16Answer, tpmAlgIdAnswer}
+use Rattle.codes.proofs.Choices.{none-chosen}
+use Rattle.codes.specs.Answers.{uint16Answer, tpmAlgIdAnswer}
 use Rattle.ciphers.proofs.tpmu.TpmuSymKeyBits.unmarshal_tagged.Tie as tie
 
 pub unmarshal-tagged-spec : {M : Type 1} → Rattle.ciphers.proofs.tpmu.TpmuSymKeyBits.unmarshal_tagged.Statement.statement M

@@ -4,7 +4,7 @@ use native.Mathlib.Omega.{arith}
 use mathlib.Core.Path.{refl}
 use Rattle.wire.specs.declared.width.Width.the-variants.{Two, Four}
 use Rattle.wire.specs.Layout.{free}
-use Rattle.format.specs.Codes.{alg}
+use Rattle.codes.specs.Codes.{alg}
 use Rattle.format.specs.Kinds.{tpmtPublic}
 use Rattle.steps.proofs.Walked.{walks-number, walks-buffer, walks-then}
 use Rattle.keys.proofs.tpmt.TpmtPublic.walk.Tie as tie

@@ -1,7 +1,7 @@
 -- The selector's code chooses the arm that the table has for it, or none. Assumes nothing.
 use Rattle.wire.proofs.Search.{needs, finds, refuses, by-whole, in-arm, no-arm, rests}
 use Rattle.format.specs.Kinds.{tpmuPublicIdTable, tpmuPublicIdArm, tpmuPublicIdBody, tpmuPublicId}
-use Rattle.format.proofs.Choices.{none-chosen}
+use Rattle.codes.proofs.Choices.{none-chosen}
 use Rattle.wire.specs.Answers.{spanAnswer}
 use Rattle.keys.specs.Answers.{tpmsEccPointAnswer}
 use Rattle.keys.proofs.tpmu.TpmuPublicId.unmarshal_tagged.Tie as tie

@@ -1,7 +1,7 @@
 -- Field by field, what is left to read is the rest of the layout. Assumes nothing.
 use Rattle.wire.specs.Answers.{spanAnswer}
 use Rattle.wire.proofs.Search.{needs, finds, refuses, by-number, by-whole, rests}
-use Rattle.format.specs.Answers.{tpmAlgIdAnswer}
+use Rattle.codes.specs.Answers.{tpmAlgIdAnswer}
 use Rattle.format.specs.Kinds.{tpmsPcrSelection}
 use Rattle.lists.proofs.list.TpmsPcrSelection.unmarshal.Statement.{statement}
 use Rattle.lists.proofs.list.TpmsPcrSelection.unmarshal.Tie as tie

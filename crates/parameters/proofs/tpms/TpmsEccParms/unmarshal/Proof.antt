@@ -1,7 +1,7 @@
 -- Field by field, what is left to read is the rest of the layout. Assumes nothing.
 use Rattle.wire.proofs.Search.{needs, finds, refuses, by-number, by-then, by-whole, rests}
 use Rattle.format.specs.Kinds.{tpmsEccParms}
-use Rattle.format.specs.Answers.{tpmEccCurveAnswer}
+use Rattle.codes.specs.Answers.{tpmEccCurveAnswer}
 use Rattle.ciphers.specs.Answers.{tpmtSymDefAnswer}
 use Rattle.schemes.specs.Answers.{tpmtEccSchemeAnswer, tpmtKdfSchemeAnswer}
 use Rattle.parameters.proofs.tpms.TpmsEccParms.unmarshal.Tie as tie

@@ -1,7 +1,7 @@
 -- Field by field, what is left to read is the rest of the layout. Assumes nothing.
 use Rattle.wire.proofs.Search.{needs, finds, refuses, by-number, by-then, by-whole, rests}
 use Rattle.format.specs.Kinds.{tpmsRsaParms}
-use Rattle.format.specs.Answers.{uint16Answer, uint32Answer}
+use Rattle.codes.specs.Answers.{uint16Answer, uint32Answer}
 use Rattle.ciphers.specs.Answers.{tpmtSymDefAnswer}
 use Rattle.schemes.specs.Answers.{tpmtRsaSchemeAnswer}
 use Rattle.parameters.proofs.tpms.TpmsRsaParms.unmarshal.Tie as tie

@@ -1,7 +1,7 @@
 -- The selector's code chooses the arm that the table has for it, or none. Assumes nothing.
 use Rattle.wire.proofs.Search.{needs, finds, refuses, by-whole, in-arm, no-arm, rests}
 use Rattle.format.specs.Kinds.{tpmuPublicParmsTable, tpmuPublicParmsArm, tpmuPublicParmsBody, tpmuPublicParms}
-use Rattle.format.proofs.Choices.{none-chosen}
+use Rattle.codes.proofs.Choices.{none-chosen}
 use Rattle.parameters.specs.Answers.{tpmsKeyedhashParmsAnswer, tpmsSymcipherParmsAnswer, tpmsRsaParmsAnswer, tpmsEccParmsAnswer}
 use Rattle.parameters.proofs.tpmu.TpmuPublicParms.unmarshal_tagged.Tie as tie
 

@@ -1,7 +1,7 @@
 -- Field by field, what is left to read is the rest of the layout. Assumes nothing.
 use Rattle.wire.proofs.Search.{needs, finds, refuses, by-number, by-whole, rests}
 use Rattle.format.specs.Kinds.{tpmsSchemeXor}
-use Rattle.format.specs.Answers.{tpmAlgIdAnswer}
+use Rattle.codes.specs.Answers.{tpmAlgIdAnswer}
 use Rattle.schemes.proofs.tpms.TpmsSchemeXor.unmarshal.Tie as tie
 
 pub unmarshal-spec : {M : Type 1} → Rattle.schemes.proofs.tpms.TpmsSchemeXor.unmarshal.Statement.statement M

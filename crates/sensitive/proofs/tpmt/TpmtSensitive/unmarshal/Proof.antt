@@ -2,7 +2,7 @@
 use Rattle.wire.proofs.Search.{needs, finds, refuses, by-number, by-buffer, by-whole, rests}
 use Rattle.format.specs.Kinds.{tpmtSensitive}
 use Rattle.wire.specs.Answers.{spanAnswer}
-use Rattle.format.specs.Answers.{tpmAlgIdAnswer}
+use Rattle.codes.specs.Answers.{tpmAlgIdAnswer}
 use Rattle.sensitive.specs.Answers.{tpmuSensitiveCompositeAnswer}
 use Rattle.sensitive.proofs.tpmt.TpmtSensitive.unmarshal.Tie as tie
 

@@ -1,7 +1,7 @@
 -- The selector's code chooses the arm that the table has for it, or none. Assumes nothing.
 use Rattle.wire.proofs.Search.{needs, finds, refuses, by-whole, in-arm, no-arm, rests}
 use Rattle.format.specs.Kinds.{tpmuSignatureTable, tpmuSignatureArm, tpmuSignatureBody, tpmuSignature}
-use Rattle.format.proofs.Choices.{none-chosen}
+use Rattle.codes.proofs.Choices.{none-chosen}
 use Rattle.ciphers.specs.Answers.{tpmtHaAnswer}
 use Rattle.signatures.specs.Answers.{tpmsSignatureRsaAnswer, tpmsSignatureEccAnswer}
 use Rattle.signatures.proofs.tpmu.TpmuSignature.unmarshal_tagged.Tie as tie

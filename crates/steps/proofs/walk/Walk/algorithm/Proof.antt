@@ -1,7 +1,7 @@
 -- Put, or aside. Assumes nothing.
 use borrow.Author.Needs.{needs}
 use Rattle.wire.specs.declared.width.Width.the-variants.{Two}
-use Rattle.format.specs.Codes.{alg}
+use Rattle.codes.specs.Codes.{alg}
 use Rattle.steps.proofs.Numbers.{put-numbers, by-aside}
 use Rattle.steps.proofs.walk.Walk.algorithm.Tie as tie
 

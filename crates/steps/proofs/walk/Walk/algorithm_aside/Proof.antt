@@ -1,7 +1,7 @@
 -- A code that its list has. Assumes nothing.
 use borrow.Author.Needs.{needs}
 use Rattle.wire.specs.declared.width.Width.the-variants.{Two}
-use Rattle.format.specs.Codes.{alg}
+use Rattle.codes.specs.Codes.{alg}
 use Rattle.text.specs.declared.line.Word.the-variants.{Code}
 use Rattle.steps.proofs.Numbers.{aside-numbers}
 use Rattle.steps.proofs.walk.Walk.algorithm_aside.Tie as tie

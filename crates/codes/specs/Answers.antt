@@ -1,0 +1,44 @@
+-- What the answers of the code's own readers mean. Assumes nothing.
+use Prim.Native.Nat.{suc}
+use mathlib.Core.List.{[], _∷_}
+use Rattle.wire.specs.declared.choice.Choice.{Choice}
+use Rattle.wire.specs.Reading.{num, Ans, refused, Parsed, parsed}
+use Rattle.codes.specs.declared.uint.Uint8Read.{Uint8Read}
+use Rattle.codes.specs.declared.uint.Uint16Read.{Uint16Read}
+use Rattle.codes.specs.declared.uint.Uint32Read.{Uint32Read}
+use Rattle.codes.specs.declared.TpmAlgIdRead.{TpmAlgIdRead}
+use Rattle.codes.specs.declared.TpmEccCurveRead.{TpmEccCurveRead}
+use Rattle.codes.specs.declared.TpmStRead.{TpmStRead}
+use Rattle.codes.specs.declared.DigestLen.{DigestLen}
+
+-- a number that was read, and where it ends
+abbrev pub uint8Answer : Uint8Read → Ans Parsed
+uint8Answer (Uint8Read.Found n e) = parsed (num n ∷ []) e
+uint8Answer (Uint8Read.No f) = refused f
+
+abbrev pub uint16Answer : Uint16Read → Ans Parsed
+uint16Answer (Uint16Read.Found n e) = parsed (num n ∷ []) e
+uint16Answer (Uint16Read.No f) = refused f
+
+abbrev pub uint32Answer : Uint32Read → Ans Parsed
+uint32Answer (Uint32Read.Found n e) = parsed (num n ∷ []) e
+uint32Answer (Uint32Read.No f) = refused f
+
+-- a code that was read, and where it ends
+abbrev pub tpmAlgIdAnswer : TpmAlgIdRead → Ans Parsed
+tpmAlgIdAnswer (TpmAlgIdRead.Found a e) = parsed (num (a .0) ∷ []) e
+tpmAlgIdAnswer (TpmAlgIdRead.No f) = refused f
+
+abbrev pub tpmEccCurveAnswer : TpmEccCurveRead → Ans Parsed
+tpmEccCurveAnswer (TpmEccCurveRead.Found c e) = parsed (num (c .0) ∷ []) e
+tpmEccCurveAnswer (TpmEccCurveRead.No f) = refused f
+
+abbrev pub tpmStAnswer : TpmStRead → Ans Parsed
+tpmStAnswer (TpmStRead.Found t e) = parsed (num (t .0) ∷ []) e
+tpmStAnswer (TpmStRead.No f) = refused f
+
+-- a digest's length as the arm of its union: one more, so that no digest is the empty arm
+abbrev pub digestChoice : DigestLen → Choice
+digestChoice (DigestLen.Bytes n) = Choice.The (suc n)
+digestChoice DigestLen.Empty = Choice.The 0
+digestChoice DigestLen.Nothing = Choice.Nothing

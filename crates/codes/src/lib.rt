@@ -1,0 +1,303 @@
+// Algorithms, curves and attestation types: codes of two bytes that are three types, so that none is taken for another.
+pub mod registry;
+pub mod uint;
+
+use crate::uint::Uint16Read;
+use crate::uint::uint16;
+use faults::Refusal;
+use wire::widen::wide;
+ghost use mathlib.Core.Path.{_≡_};
+ghost use Rattle.wire.specs.Layout.{one};
+ghost use Rattle.wire.specs.Reading.{read};
+ghost use Rattle.codes.specs.Codes.{attestations, namedAlgorithms, isAlgorithm, isCurve, isAttestation, within, alg, curve, attestation};
+ghost use Rattle.codes.specs.Digests.{tpmuHaArm};
+ghost use Rattle.codes.specs.Answers.{tpmAlgIdAnswer, tpmEccCurveAnswer, tpmStAnswer, digestChoice};
+
+pub struct TpmAlgId(pub u16);
+
+pub struct TpmEccCurve(pub u16);
+
+pub struct TpmSt(pub u16);
+
+pub enum TpmAlgIdRead {
+    Found(TpmAlgId, usize),
+    No(Refusal),
+}
+
+pub enum TpmEccCurveRead {
+    Found(TpmEccCurve, usize),
+    No(Refusal),
+}
+
+pub enum TpmStRead {
+    Found(TpmSt, usize),
+    No(Refusal),
+}
+
+// How long an algorithm's digest is. Null's is empty; an algorithm that is no hash has none.
+pub enum DigestLen {
+    Bytes(u16),
+    Empty,
+    Nothing,
+}
+
+fn within(lo: u16, hi: u16, n: u16) -> bool
+    ensures { λ r. ⌜ r ≡ within lo hi n ⌝ }
+{
+    if lo <= n { n <= hi } else { false }
+}
+
+impl TpmAlgId {
+    pub const Rsa: TpmAlgId = TpmAlgId(registry::RSA);
+
+    pub const Sha1: TpmAlgId = TpmAlgId(registry::SHA1);
+
+    pub const Hmac: TpmAlgId = TpmAlgId(registry::HMAC);
+
+    pub const Aes: TpmAlgId = TpmAlgId(registry::AES);
+
+    pub const Mgf1: TpmAlgId = TpmAlgId(registry::MGF1);
+
+    pub const KeyedHash: TpmAlgId = TpmAlgId(registry::KEYED_HASH);
+
+    pub const Xor: TpmAlgId = TpmAlgId(registry::XOR);
+
+    pub const Sha256: TpmAlgId = TpmAlgId(registry::SHA256);
+
+    pub const Sha384: TpmAlgId = TpmAlgId(registry::SHA384);
+
+    pub const Sha512: TpmAlgId = TpmAlgId(registry::SHA512);
+
+    pub const Null: TpmAlgId = TpmAlgId(registry::NULL);
+
+    pub const Sm3_256: TpmAlgId = TpmAlgId(registry::SM3_256);
+
+    pub const Sm4: TpmAlgId = TpmAlgId(registry::SM4);
+
+    pub const Rsassa: TpmAlgId = TpmAlgId(registry::RSASSA);
+
+    pub const Rsaes: TpmAlgId = TpmAlgId(registry::RSAES);
+
+    pub const Rsapss: TpmAlgId = TpmAlgId(registry::RSAPSS);
+
+    pub const Oaep: TpmAlgId = TpmAlgId(registry::OAEP);
+
+    pub const Ecdsa: TpmAlgId = TpmAlgId(registry::ECDSA);
+
+    pub const Ecdh: TpmAlgId = TpmAlgId(registry::ECDH);
+
+    pub const Ecdaa: TpmAlgId = TpmAlgId(registry::ECDAA);
+
+    pub const Sm2: TpmAlgId = TpmAlgId(registry::SM2);
+
+    pub const Ecschnorr: TpmAlgId = TpmAlgId(registry::ECSCHNORR);
+
+    pub const Ecmqv: TpmAlgId = TpmAlgId(registry::ECMQV);
+
+    pub const Kdf1Sp800_56A: TpmAlgId = TpmAlgId(registry::KDF1_SP800_56A);
+
+    pub const Kdf2: TpmAlgId = TpmAlgId(registry::KDF2);
+
+    pub const Kdf1Sp800_108: TpmAlgId = TpmAlgId(registry::KDF1_SP800_108);
+
+    pub const Ecc: TpmAlgId = TpmAlgId(registry::ECC);
+
+    pub const SymCipher: TpmAlgId = TpmAlgId(registry::SYM_CIPHER);
+
+    pub const Camellia: TpmAlgId = TpmAlgId(registry::CAMELLIA);
+
+    pub const Sha3_256: TpmAlgId = TpmAlgId(registry::SHA3_256);
+
+    pub const Sha3_384: TpmAlgId = TpmAlgId(registry::SHA3_384);
+
+    pub const Sha3_512: TpmAlgId = TpmAlgId(registry::SHA3_512);
+
+    pub const Shake256_192: TpmAlgId = TpmAlgId(registry::SHAKE256_192);
+
+    pub const Shake256_256: TpmAlgId = TpmAlgId(registry::SHAKE256_256);
+
+    pub const Shake256_512: TpmAlgId = TpmAlgId(registry::SHAKE256_512);
+
+    // The codes of the algorithms that have a name here, rising.
+    pub fn named() -> [u16; 35]
+        ensures { λ r. ⌜ r ≡ namedAlgorithms ⌝ }
+    {
+        [
+            TpmAlgId::Rsa.0,
+            TpmAlgId::Sha1.0,
+            TpmAlgId::Hmac.0,
+            TpmAlgId::Aes.0,
+            TpmAlgId::Mgf1.0,
+            TpmAlgId::KeyedHash.0,
+            TpmAlgId::Xor.0,
+            TpmAlgId::Sha256.0,
+            TpmAlgId::Sha384.0,
+            TpmAlgId::Sha512.0,
+            TpmAlgId::Null.0,
+            TpmAlgId::Sm3_256.0,
+            TpmAlgId::Sm4.0,
+            TpmAlgId::Rsassa.0,
+            TpmAlgId::Rsaes.0,
+            TpmAlgId::Rsapss.0,
+            TpmAlgId::Oaep.0,
+            TpmAlgId::Ecdsa.0,
+            TpmAlgId::Ecdh.0,
+            TpmAlgId::Ecdaa.0,
+            TpmAlgId::Sm2.0,
+            TpmAlgId::Ecschnorr.0,
+            TpmAlgId::Ecmqv.0,
+            TpmAlgId::Kdf1Sp800_56A.0,
+            TpmAlgId::Kdf2.0,
+            TpmAlgId::Kdf1Sp800_108.0,
+            TpmAlgId::Ecc.0,
+            TpmAlgId::SymCipher.0,
+            TpmAlgId::Camellia.0,
+            TpmAlgId::Sha3_256.0,
+            TpmAlgId::Sha3_384.0,
+            TpmAlgId::Sha3_512.0,
+            TpmAlgId::Shake256_192.0,
+            TpmAlgId::Shake256_256.0,
+            TpmAlgId::Shake256_512.0,
+        ]
+    }
+
+    // Whether the code is one of the 44.
+    pub fn is_listed(self) -> bool
+        ensures { λ r. ⌜ r ≡ isAlgorithm (self .0) ⌝ }
+    {
+        let n = self.0;
+        within(0x01, 0x01, n)
+            | within(0x03, 0x08, n)
+            | within(0x0A, 0x0D, n)
+            | within(0x10, 0x10, n)
+            | within(0x12, 0x1D, n)
+            | within(0x20, 0x23, n)
+            | within(0x25, 0x2E, n)
+            | within(0x3F, 0x44, n)
+    }
+
+    // An algorithm's code, read.
+    pub fn unmarshal(s: &[u8], at: usize) -> TpmAlgIdRead
+        ensures { λ r. ⌜ tpmAlgIdAnswer r ≡ read (one 2 alg) (now (s .entry)) at ⌝ }
+    {
+        match uint16(s, at) {
+            Uint16Read::Found(n, e) => {
+                let a = TpmAlgId(n);
+                if a.is_listed() {
+                    TpmAlgIdRead::Found(a, e)
+                } else {
+                    TpmAlgIdRead::No(Refusal::unknown_code(at, wide(n)))
+                }
+            }
+            Uint16Read::No(f) => TpmAlgIdRead::No(f),
+        }
+    }
+
+    // The length of the algorithm's digest.
+    pub fn digest_len(self) -> DigestLen
+        ensures { λ r. ⌜ digestChoice r ≡ tpmuHaArm (self .0) ⌝ }
+    {
+        let a = self.0;
+        match a {
+            registry::SHA1 => DigestLen::Bytes(20),
+            registry::SHAKE256_192 => DigestLen::Bytes(24),
+            registry::SHA256 | registry::SM3_256 | registry::SHA3_256 | registry::SHAKE256_256 => {
+                DigestLen::Bytes(32)
+            }
+            registry::SHA384 | registry::SHA3_384 => DigestLen::Bytes(48),
+            registry::SHA512 | registry::SHA3_512 | registry::SHAKE256_512 => DigestLen::Bytes(64),
+            registry::NULL => DigestLen::Empty,
+            _ => DigestLen::Nothing,
+        }
+    }
+}
+
+impl TpmEccCurve {
+    // Whether the code is one of the 14.
+    pub fn is_listed(self) -> bool
+        ensures { λ r. ⌜ r ≡ isCurve (self .0) ⌝ }
+    {
+        let n = self.0;
+        within(0x00, 0x05, n)
+            | within(0x10, 0x11, n)
+            | within(0x20, 0x20, n)
+            | within(0x30, 0x32, n)
+            | within(0x40, 0x41, n)
+    }
+
+    // A curve's code, read.
+    pub fn unmarshal(s: &[u8], at: usize) -> TpmEccCurveRead
+        ensures { λ r. ⌜ tpmEccCurveAnswer r ≡ read (one 2 curve) (now (s .entry)) at ⌝ }
+    {
+        match uint16(s, at) {
+            Uint16Read::Found(n, e) => {
+                let c = TpmEccCurve(n);
+                if c.is_listed() {
+                    TpmEccCurveRead::Found(c, e)
+                } else {
+                    TpmEccCurveRead::No(Refusal::unknown_code(at, wide(n)))
+                }
+            }
+            Uint16Read::No(f) => TpmEccCurveRead::No(f),
+        }
+    }
+}
+
+impl TpmSt {
+    pub const AttestNv: TpmSt = TpmSt(registry::ATTEST_NV);
+
+    pub const AttestCommandAudit: TpmSt = TpmSt(registry::ATTEST_COMMAND_AUDIT);
+
+    pub const AttestSessionAudit: TpmSt = TpmSt(registry::ATTEST_SESSION_AUDIT);
+
+    pub const AttestCertify: TpmSt = TpmSt(registry::ATTEST_CERTIFY);
+
+    pub const AttestQuote: TpmSt = TpmSt(registry::ATTEST_QUOTE);
+
+    pub const AttestTime: TpmSt = TpmSt(registry::ATTEST_TIME);
+
+    pub const AttestCreation: TpmSt = TpmSt(registry::ATTEST_CREATION);
+
+    pub const AttestNvDigest: TpmSt = TpmSt(registry::ATTEST_NV_DIGEST);
+
+    // Their codes, rising.
+    pub fn named() -> [u16; 8]
+        ensures { λ r. ⌜ r ≡ attestations ⌝ }
+    {
+        [
+            TpmSt::AttestNv.0,
+            TpmSt::AttestCommandAudit.0,
+            TpmSt::AttestSessionAudit.0,
+            TpmSt::AttestCertify.0,
+            TpmSt::AttestQuote.0,
+            TpmSt::AttestTime.0,
+            TpmSt::AttestCreation.0,
+            TpmSt::AttestNvDigest.0,
+        ]
+    }
+
+    // Whether the code is one of the 8 attestation types.
+    pub fn is_listed(self) -> bool
+        ensures { λ r. ⌜ r ≡ isAttestation (self .0) ⌝ }
+    {
+        let n = self.0;
+        within(0x8014, 0x801A, n) | within(0x801C, 0x801C, n)
+    }
+
+    // An attestation type's code, read.
+    pub fn unmarshal(s: &[u8], at: usize) -> TpmStRead
+        ensures { λ r. ⌜ tpmStAnswer r ≡ read (one 2 attestation) (now (s .entry)) at ⌝ }
+    {
+        match uint16(s, at) {
+            Uint16Read::Found(n, e) => {
+                let t = TpmSt(n);
+                if t.is_listed() {
+                    TpmStRead::Found(t, e)
+                } else {
+                    TpmStRead::No(Refusal::unknown_code(at, wide(n)))
+                }
+            }
+            Uint16Read::No(f) => TpmStRead::No(f),
+        }
+    }
+}

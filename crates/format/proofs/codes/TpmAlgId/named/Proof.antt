@@ -1,7 +1,0 @@
--- The named algorithms are the list. Assumes nothing.
-use mathlib.Core.Path.{refl}
-use Rattle.format.proofs.codes.TpmAlgId.named.Tie as tie
-
-pub named-spec : {M : Type 1} → Rattle.format.proofs.codes.TpmAlgId.named.Statement.statement M
-named-spec = tie.close (tie.spec
-    (λ c. refl))

@@ -1,8 +1,0 @@
--- The ranges tested are the list's. Assumes nothing.
-use borrow.Author.Needs.{needs}
-use Rattle.format.proofs.Ranges.{curve-tests}
-use Rattle.format.proofs.codes.TpmEccCurve.is_listed.Statement.{statement}
-use Rattle.format.proofs.codes.TpmEccCurve.is_listed.Tie as tie
-
-pub is-listed-spec : {M : Type 1} → statement M
-is-listed-spec = tie.close (tie.spec (search needs) (search needs) (search needs) (search needs) (search needs) (λ c. search curve-tests))
