@@ -3,18 +3,16 @@ use Prim.Native.Nat.{ℕ, zero, suc, _≤_}
 use native.Mathlib.Omega.{arith}
 use mathlib.Core.Path.{_≡_, refl, sym}
 use mathlib.Core.Bool.{Bool, true, false, cond}
-use mathlib.Core.List.{List, [], _∷_, map}
+use mathlib.Core.List.{List, [], _∷_}
 use Rattle.wire.specs.declared.choice.Choice.the-variants.{Nothing, The}
 use Rattle.wire.specs.Layout.{Layout, stop, plain}
-use Rattle.wire.specs.Unions.{Row, bodyOf}
+use Rattle.wire.specs.Unions.{Row}
 use Rattle.format.specs.Kinds.{empty, digestOf, tpmsSchemeHash, tpmuHaTable, tpmuAsymSchemeTable, tpmuSigSchemeTable, tpmuKeyedhashSchemeTable, tpmuKdfSchemeTable, tpmuSymKeyBitsTable, tpmuSymModeTable, tpmuPublicParmsTable, tpmuPublicIdTable, tpmuSensitiveCompositeTable, tpmuSignatureTable, tpmuAttestTable, tpmuHaArm, tpmuHaBody, tpmuSigSchemeArm, tpmuSigSchemeBody, tpmuSymKeyBitsArm, tpmuSymModeArm, tpmuPublicParmsArm, tpmuPublicIdArm, tpmuAttestArm}
 use Rattle.codes.specs.Codes.{member, attestations, isAttestation}
+use Rattle.codes.proofs.Digests.{Agrees}
 use Rattle.codes.proofs.Choices.{chosen-has, chosen-listed, none-listed}
 
--- each row's arm holds what the row says: rows that choose one arm hold the same
-abbrev pub Agrees : List Row → Type 0
-Agrees rs = map (λ (r : Row). bodyOf rs (r .chooses)) rs ≡ map (λ (r : Row). r .holds) rs
-
+-- in each of some tables
 abbrev pub AllAgree : List (List Row) → Type 0
 AllAgree [] = Unit {0}
 AllAgree (rs ∷ rss) = Agrees rs × AllAgree rss
