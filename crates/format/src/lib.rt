@@ -1,4 +1,4 @@
-// The codes of the fourteen kinds, their unions' arms, their limits and lists, and numbers as their fields hold them. The kinds themselves are layouts:
+// The format of the fourteen kinds in code: the arms of their unions, their limits, lists and numbers. The kinds themselves are layouts:
 // specs/Kinds.antt.
 pub mod arms;
 pub mod kind;

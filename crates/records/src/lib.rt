@@ -1,3 +1,3 @@
-// Records of any kind, by the kind's number, and what stands behind them.
+// Where a record ends, by its kind's number, and what stands behind it.
 pub mod kind;
 pub mod tail;
