@@ -126,6 +126,6 @@ copy-is-one {r = r} {s} a b = (measure-answer-once r s (a .answer ∙ sym (b .an
 
 -- ---- which layout a writer's kind has
 
--- what a writer of the layout ensures is what a writer of the kind ensures; `kind-layouts` of Readers says which layout a number has
+-- what a writer of the layout ensures is what a writer of the kind ensures; `kind-layouts` of `records` says which layout a number has
 pub by-number : {l : Layout} {ps : List Part} {src old last : List ℕ} {r : Measure} (k : ℕ) → layoutOf k ≡ l → Writes l ps src old r last → Writes (layoutOf k) ps src old r last
 by-number k e w = rw e w

@@ -6,14 +6,14 @@ use lib.ListN.{length, getD}
 use lib.Dec.{leb, ltb}
 use Rattle.faults.specs.Faults.{badKind}
 use Rattle.wire.specs.declared.choice.Choice.{Choice}
-use Rattle.wire.specs.Layout.{Layout, stop, noArm, number, plain, buffer, counted, one, free, _then_}
+use Rattle.wire.specs.Layout.{Layout, stop, noArm, number, buffer, counted, one, free, _then_}
 use Rattle.wire.specs.Reading.{Reader, Parsed, refused, read}
 use Rattle.wire.specs.Unions.{Row, row, own, armOf, bodyOf, union}
 use Rattle.format.specs.declared.list.ListOf.{ListOf}
 use Rattle.format.specs.declared.list.ListOf.the-variants.{PcrSelection}
 pub use Rattle.codes.specs.Digests.{empty, digestOf, tpmuHaTable}
 unfoldable pub use Rattle.codes.specs.Digests.{tpmuHaArm}
-use Rattle.codes.specs.Codes.{alg, curve, attestation, yesNo, magic, rsa, sha1, hmac, aes, mgf1, keyedHash, xor, sha256, sha384, sha512, null, sm3-256, sm4, rsassa, rsaes, rsapss, oaep, ecdsa, ecdh, ecdaa, sm2, ecschnorr, ecmqv, kdf1-sp800-56a, kdf2, kdf1-sp800-108, ecc, symCipher, camellia, sha3-256, sha3-384, sha3-512, shake256-192, shake256-256, shake256-512, attestNv, attestCommandAudit, attestSessionAudit, attestCertify, attestQuote, attestTime, attestCreation, attestNvDigest}
+use Rattle.codes.specs.Codes.{alg, curve, attestation, yesNo, magic, rsa, hmac, aes, mgf1, keyedHash, xor, null, sm4, rsassa, rsaes, rsapss, oaep, ecdsa, ecdh, ecdaa, sm2, ecschnorr, ecmqv, kdf1-sp800-56a, kdf2, kdf1-sp800-108, ecc, symCipher, camellia, attestNv, attestCommandAudit, attestSessionAudit, attestCertify, attestQuote, attestTime, attestCreation, attestNvDigest}
 
 -- ---- limits of the buffers, in bytes
 

@@ -22,7 +22,7 @@ use Rattle.wire.proofs.Steps.{found-refused, found-same, when-found}
 use Rattle.steps.specs.declared.walk.Walk.{Walk}
 use Rattle.steps.specs.Steps.{Step, Plain, Buffer, Due, spellStep, dueSize}
 use Rattle.steps.specs.Near.{Near}
-use Rattle.steps.specs.Walks.{Here, here, judging, putting, seeking, refusing, finding, lining, after, judged, judgeDue, judgeSized, judgeStep, countOf, Moves, putOne, putSpan, putStep, seekSpan, seekStep, listStep, forLines, toPlace, lineStep, stepBy, stepWalk, run, Goes, Dues, readyBy, readyWalk, faultOf, answerBy, walkAnswer}
+use Rattle.steps.specs.Walks.{Here, here, putting, seeking, refusing, finding, lining, after, judged, judgeDue, judgeSized, judgeStep, countOf, Moves, putOne, putSpan, putStep, seekSpan, seekStep, listStep, forLines, toPlace, lineStep, stepBy, stepWalk, run, Goes, Dues, readyBy, readyWalk, faultOf, answerBy, walkAnswer}
 
 -- ---- what a walk is for
 

@@ -26,7 +26,7 @@ use Rattle.text.proofs.Putting.{filled-puts, puts-length, puts-then, puts-none}
 use Rattle.format.specs.declared.list.ListOf.{ListOf}
 use Rattle.format.specs.Kinds.{itemLayout, mostItems}
 use Rattle.steps.specs.Steps.{Step, Number, Plain, Buffer, Items, Due, spell, spellStep, spansOf, listsOf, laid}
-use Rattle.steps.specs.Walks.{Here, here, judging, putting, seeking, listSeeking, refusing, finding, far, after, judged, judgeStep, countOf, putStep, seekSpan, seekStep, seekAnswer, stepWalk, run, most, reach}
+use Rattle.steps.specs.Walks.{Here, here, judging, putting, seeking, listSeeking, refusing, finding, after, judged, judgeStep, countOf, putStep, seekSpan, seekStep, seekAnswer, stepWalk, run, most, reach}
 use Rattle.steps.proofs.Reach.{list-near}
 use Rattle.steps.proofs.Spelled.{Inside, Next, next-step}
 

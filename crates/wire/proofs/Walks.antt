@@ -1,7 +1,7 @@
 -- A walk over items, from the code's side: what is left to walk after each item. Assumes nothing.
 use Prim.Native.Nat.{ℕ, suc, _+_, _-_, _≤_, _<_}
 use native.Mathlib.Omega.{arith}
-use mathlib.Core.Path.{_≡_, refl, sym}
+use mathlib.Core.Path.{_≡_}
 use mathlib.Core.List.{List}
 use Rattle.faults.specs.declared.Refusal.{Refusal}
 use Rattle.wire.specs.Reading.{Part, Parsed, parsed, found, refused, Reader, walk}

@@ -1,7 +1,7 @@
 -- What a writer of a layout answers on any record, given by its parts, and any source: the record's bytes, or the first refusal in
 -- wire order. Assumes nothing.
 use Prim.Native.Nat.{ℕ, _+_, _-_, _^_}
-use mathlib.Core.List.{List, [], _∷_, _++_}
+use mathlib.Core.List.{List, [], _++_}
 use mathlib.Core.Bool.{_&&_, cond}
 use lib.ListN.{length, take, drop}
 use lib.Dec.{leb, ltb, eqb}

@@ -1,6 +1,5 @@
 -- Its field takes every number. Assumes nothing.
 use borrow.Author.Needs.{needs}
-use Rattle.wire.specs.declared.width.Width.the-variants.{Eight}
 use Rattle.steps.proofs.Numbers.{long-numbers}
 use Rattle.steps.proofs.walk.Walk.uint64.Tie as tie
 
