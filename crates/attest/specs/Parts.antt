@@ -1,7 +1,7 @@
 -- The parts of an attestation, in wire order; of a union the arm that it holds comes first. Assumes nothing.
 use mathlib.Core.List.{List, [], _∷_, _++_}
 use Rattle.wire.specs.Answers.{spanPart}
-use Rattle.wire.specs.Reading.{Part, num, tag}
+use Rattle.wire.specs.Records.{Part, num, tag}
 use Rattle.codes.specs.Codes.{attestNv, attestCommandAudit, attestSessionAudit, attestCertify, attestQuote, attestTime, attestCreation, attestNvDigest}
 use Rattle.attest.specs.declared.list.TpmlPcrSelection.{TpmlPcrSelection}
 use Rattle.attest.specs.declared.tpms.TpmsClockInfo.{TpmsClockInfo}

@@ -10,7 +10,8 @@ use Rattle.wire.specs.declared.span.Span.{Span}
 use Rattle.wire.specs.declared.read.SpanRead.{SpanRead}
 use Rattle.wire.specs.Answers.{lenOf, spanPart, spanAnswer}
 use Rattle.wire.specs.Layout.{plain, stop}
-use Rattle.wire.specs.Reading.{span, tag, Ans, Parsed, parsed, also, piece, read}
+use Rattle.wire.specs.Records.{span, tag, Ans, Parsed, parsed}
+use Rattle.wire.specs.Reading.{also, piece, read}
 use Rattle.wire.proofs.Steps.{next-found, parsed-same}
 use Rattle.wire.proofs.Search.{known, Shows, shown, by-whole, chosen, rests}
 use Rattle.format.specs.Kinds.{digestOf, tpmuHaArm, tpmuHaBody, tpmuHa}

@@ -1,7 +1,7 @@
 -- The parts of digests and ciphers, in wire order; of a union the arm that it holds comes first. Assumes nothing.
 use mathlib.Core.List.{List, [], _∷_, _++_}
 use Rattle.wire.specs.Answers.{lenOf, spanPart}
-use Rattle.wire.specs.Reading.{Part, num, tag}
+use Rattle.wire.specs.Records.{Part, num, tag}
 use Rattle.codes.specs.Codes.{aes, xor, null, sm4, camellia}
 use Rattle.format.specs.Kinds.{empty, digestOf}
 use Rattle.ciphers.specs.declared.tpmu.TpmuHa.{TpmuHa}

@@ -4,7 +4,7 @@ use mathlib.Core.Path.{refl}
 use mathlib.Core.List.{[], _∷_}
 use mathlib.Core.Option.{some}
 use Rattle.wire.specs.declared.choice.Choice.{Choice}
-use Rattle.wire.specs.Reading.{num}
+use Rattle.wire.specs.Records.{num}
 use Rattle.wire.proofs.Once.{Injective, undone, Once, number-once, fields, answers}
 use Rattle.codes.specs.declared.uint.Uint8Read.{Uint8Read}
 use Rattle.codes.specs.declared.uint.Uint16Read.{Uint16Read}

@@ -2,7 +2,7 @@
 use Prim.Native.Nat.{suc}
 use mathlib.Core.List.{[], _∷_}
 use Rattle.wire.specs.declared.choice.Choice.{Choice}
-use Rattle.wire.specs.Reading.{num, Ans, refused, Parsed, parsed}
+use Rattle.wire.specs.Records.{num, Ans, refused, Parsed, parsed}
 use Rattle.codes.specs.declared.uint.Uint8Read.{Uint8Read}
 use Rattle.codes.specs.declared.uint.Uint16Read.{Uint16Read}
 use Rattle.codes.specs.declared.uint.Uint32Read.{Uint32Read}

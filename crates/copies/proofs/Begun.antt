@@ -7,7 +7,8 @@ use mathlib.Core.List.{List, [], _∷_}
 use lib.ListN.{length, getD}
 use Rattle.wire.specs.Bytes.{Bytes}
 use Rattle.wire.specs.Layout.{Layout, noArm}
-use Rattle.wire.specs.Reading.{Part, parsed, read}
+use Rattle.wire.specs.Records.{Part, parsed}
+use Rattle.wire.specs.Reading.{read}
 use Rattle.wire.specs.Grammar.{Token, Spells}
 use Rattle.wire.proofs.Stand.{stands-left}
 use Rattle.wire.proofs.Sound.{read-sound}

@@ -8,7 +8,8 @@ use lib.ListN.{length, take, drop, length-append}
 use lib.Dec.{leb, eqb}
 use borrow.Author.Tests.{le-leb, leb-true, eq-eqb}
 use Rattle.wire.specs.Layout.{Rule, Layout, stop, noArm, arm, number, plain, buffer, counted, lengthTo}
-use Rattle.wire.specs.Reading.{Part, num, tag, span, Ans, found, list, read}
+use Rattle.wire.specs.Records.{Part, num, tag, span, Ans, found}
+use Rattle.wire.specs.Reading.{list, read}
 use Rattle.wire.specs.Grammar.{Token, value, held, bytes, Spells, ends, holds, says, shows, sizes, counts, shown}
 use Rattle.wire.specs.Writing.{cut, spelt, whole, moved, ahead, lay}
 use Rattle.wire.proofs.Digits.{length-digits}

@@ -12,7 +12,7 @@ use lib.Dec.{leb}
 use borrow.Author.Tests.{leb-true, leb-false}
 use Rattle.faults.specs.declared.Refusal.{Refusal}
 use Rattle.faults.specs.Faults.{noRoom}
-use Rattle.wire.specs.Reading.{Ans, found, refused}
+use Rattle.wire.specs.Records.{Ans, found, refused}
 use Rattle.wire.specs.Filling.{written, filled}
 use Rattle.wire.proofs.Steps.{found-refused, found-same, refused-same}
 use Rattle.wire.proofs.Filling.{fits-put, fits-not}

@@ -12,7 +12,8 @@ use lib.Seq.{take-at, length-take-le}
 use Rattle.faults.specs.declared.Refusal.{Refusal}
 use Rattle.faults.specs.Faults.{noRoom}
 use Rattle.wire.specs.Bytes.{Bytes}
-use Rattle.wire.specs.Reading.{Part, found, refused, parsed, read}
+use Rattle.wire.specs.Records.{Part, found, refused, parsed}
+use Rattle.wire.specs.Reading.{read}
 use Rattle.wire.specs.Grammar.{Spells, shown}
 use Rattle.wire.specs.Writing.{lay}
 use Rattle.wire.specs.Filling.{written, filled}

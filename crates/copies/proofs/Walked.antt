@@ -12,7 +12,8 @@ use Rattle.wire.specs.declared.measure.Measure.{Measure}
 use Rattle.wire.specs.Answers.{measureAnswer}
 use Rattle.wire.specs.Bytes.{Bytes}
 use Rattle.wire.specs.Layout.{Layout}
-use Rattle.wire.specs.Reading.{Part, Ans, found, refused, next, Parsed, read}
+use Rattle.wire.specs.Records.{Part, Ans, found, refused, next, Parsed}
+use Rattle.wire.specs.Reading.{read}
 use Rattle.wire.specs.Writing.{lay}
 use Rattle.wire.specs.Filling.{written, filled}
 use Rattle.wire.proofs.Search.{known}

@@ -10,7 +10,8 @@ use Rattle.wire.specs.declared.measure.Measure.{Measure}
 use Rattle.wire.specs.Answers.{measureAnswer}
 use Rattle.wire.specs.Bytes.{Bytes}
 use Rattle.wire.specs.Layout.{Layout}
-use Rattle.wire.specs.Reading.{Part, found, refused, parsed, read}
+use Rattle.wire.specs.Records.{Part, found, refused, parsed}
+use Rattle.wire.specs.Reading.{read}
 use Rattle.wire.specs.Grammar.{Spells, shown}
 use Rattle.wire.specs.Writing.{lay}
 use Rattle.wire.specs.Filling.{written}

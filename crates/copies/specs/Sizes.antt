@@ -2,7 +2,7 @@
 use Prim.Native.Nat.{ℕ, _+_}
 use mathlib.Core.List.{List, [], _∷_}
 use Rattle.wire.specs.Layout.{Layout, stop, noArm, arm, number, plain, buffer, counted}
-use Rattle.wire.specs.Reading.{Part, num, tag, span}
+use Rattle.wire.specs.Records.{Part, num, tag, span}
 
 -- the number that a part holds; 0 where it holds none
 abbrev pub numberOf : Part → ℕ

@@ -7,7 +7,7 @@ use Rattle.faults.specs.declared.Refusal.{Refusal}
 use Rattle.wire.specs.declared.measure.Measure.{Measure}
 use Rattle.wire.specs.Answers.{measureAnswer}
 use Rattle.wire.specs.Layout.{Layout}
-use Rattle.wire.specs.Reading.{Part, Ans, found, refused, next, Parsed}
+use Rattle.wire.specs.Records.{Part, Ans, found, refused, next, Parsed}
 use Rattle.wire.specs.Filling.{written, filled}
 use Rattle.format.specs.Kinds.{readKind}
 use Rattle.steps.specs.Walks.{Here, here, refusing, Walks}

@@ -2,7 +2,7 @@
 use Prim.Native.Nat.{ℕ, _+_, _≤_}
 use mathlib.Core.List.{List, [], _∷_}
 use lib.ListN.{length}
-use Rattle.wire.specs.Reading.{Part, num, tag, span}
+use Rattle.wire.specs.Records.{Part, num, tag, span}
 
 -- every span among the parts lies in src
 abbrev pub Within : (src : List ℕ) → List Part → Type 0

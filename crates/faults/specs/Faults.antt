@@ -4,96 +4,102 @@ use Rattle.faults.specs.declared.Fault.{Fault}
 use Rattle.faults.specs.declared.Fault.the-variants.{Short, UnknownCode, NoArm, TooLong, TooManyItems, BadValue, Mismatch, BadSpan, NoRoom, NoField, Trailing, BadKind, Oversize}
 use Rattle.faults.specs.declared.Refusal.{Refusal}
 
--- what the value of a refusal says
-pub data Meaning : Type 0 where
-  -- the bytes that this field needs
-  bytesNeeded : Meaning
+-- what was met where something is refused; a number that does not come up there is 0
+pub record Met : Type 0 where
+  -- the bytes that this field needs, or the record
+  pub needed : ℕ
   -- the code that is on no list
-  theCode : Meaning
+  pub code : ℕ
   -- the selector of the union
-  theSelector : Meaning
+  pub selector : ℕ
   -- the length that passes its limit
-  theLength : Meaning
+  pub size : ℕ
   -- the count that passes its capacity
-  theCount : Meaning
+  pub count : ℕ
   -- the yes/no byte, or the magic
-  theByteOrMagic : Meaning
+  pub found : ℕ
   -- the length of the span
-  theSpanLength : Meaning
+  pub span : ℕ
   -- the index that was asked for
-  theIndex : Meaning
+  pub index : ℕ
   -- the bytes left over
-  bytesLeftOver : Meaning
+  pub leftOver : ℕ
   -- the kind that was asked for
-  theKind : Meaning
-  -- one more byte than the listing takes behind the kind, 4,097
-  oneTooMany : Meaning
+  pub kind : ℕ
 
--- a row of the format's table of faults
+abbrev pub met : (needed code selector size count found span index leftOver kind : ℕ) → Met
+met n c v s m x l i o k =
+    record { needed = n; code = c; selector = v; size = s; count = m; found = x; span = l; index = i; leftOver = o; kind = k }
+
+-- a row of the format's table of faults: the fault's number, and the value that its refusal has
 pub record Row : Type 0 where
   pub number : ℕ
-  pub value : Meaning
+  pub value : Met → ℕ
 
-abbrev pub row : ℕ → Meaning → Row
-row n m = record { number = n; value = m }
+abbrev pub row : ℕ → (Met → ℕ) → Row
+row n v = record { number = n; value = v }
 
--- the table of faults, as the format has it on paper (docs/FORMAT.md)
+-- the table of faults, as the format has it on paper (docs/FORMAT.md). Oversize has one more byte than the listing takes behind the kind
 abbrev pub paper : Fault → Row
-paper Short = row 1 bytesNeeded
-paper UnknownCode = row 2 theCode
-paper NoArm = row 3 theSelector
-paper TooLong = row 4 theLength
-paper TooManyItems = row 5 theCount
-paper BadValue = row 6 theByteOrMagic
-paper Mismatch = row 7 theSelector
-paper BadSpan = row 8 theSpanLength
-paper NoRoom = row 9 bytesNeeded
-paper NoField = row 10 theIndex
-paper Trailing = row 11 bytesLeftOver
-paper BadKind = row 12 theKind
-paper Oversize = row 13 oneTooMany
-
--- ---- refusals by name; the arguments are the place, and then the value that the table says
+paper Short = row 1 (λ m. m .needed)
+paper UnknownCode = row 2 (λ m. m .code)
+paper NoArm = row 3 (λ m. m .selector)
+paper TooLong = row 4 (λ m. m .size)
+paper TooManyItems = row 5 (λ m. m .count)
+paper BadValue = row 6 (λ m. m .found)
+paper Mismatch = row 7 (λ m. m .selector)
+paper BadSpan = row 8 (λ m. m .span)
+paper NoRoom = row 9 (λ m. m .needed)
+paper NoField = row 10 (λ m. m .index)
+paper Trailing = row 11 (λ m. m .leftOver)
+paper BadKind = row 12 (λ m. m .kind)
+paper Oversize = row 13 (λ m. 4097)
 
 abbrev pub refusal : Fault → (place value : ℕ) → Refusal
 refusal f p v = record { fault = f; place = p; value = v }
 
+-- the refusal for a fault at a place: its value is what the table says of what was met
+abbrev pub refusing : Fault → (place : ℕ) → Met → Refusal
+refusing f p m = refusal f p (paper f .value m)
+
+-- ---- refusals by name; the arguments are the place, and then the number that was met
+
 abbrev pub short : (place needed : ℕ) → Refusal
-short p n = refusal Short p n
+short p n = refusing Short p (met n 0 0 0 0 0 0 0 0 0)
 
 abbrev pub unknownCode : (place code : ℕ) → Refusal
-unknownCode p c = refusal UnknownCode p c
+unknownCode p c = refusing UnknownCode p (met 0 c 0 0 0 0 0 0 0 0)
 
 abbrev pub noSuchArm : (place selector : ℕ) → Refusal
-noSuchArm p v = refusal NoArm p v
+noSuchArm p v = refusing NoArm p (met 0 0 v 0 0 0 0 0 0 0)
 
 abbrev pub tooLong : (place length : ℕ) → Refusal
-tooLong p n = refusal TooLong p n
+tooLong p n = refusing TooLong p (met 0 0 0 n 0 0 0 0 0 0)
 
 abbrev pub tooManyItems : (place count : ℕ) → Refusal
-tooManyItems p n = refusal TooManyItems p n
+tooManyItems p n = refusing TooManyItems p (met 0 0 0 0 n 0 0 0 0 0)
 
 abbrev pub badValue : (place value : ℕ) → Refusal
-badValue p v = refusal BadValue p v
+badValue p v = refusing BadValue p (met 0 0 0 0 0 v 0 0 0 0)
 
 abbrev pub mismatch : (place selector : ℕ) → Refusal
-mismatch p v = refusal Mismatch p v
+mismatch p v = refusing Mismatch p (met 0 0 v 0 0 0 0 0 0 0)
 
 abbrev pub badSpan : (place length : ℕ) → Refusal
-badSpan p n = refusal BadSpan p n
+badSpan p n = refusing BadSpan p (met 0 0 0 0 0 0 n 0 0 0)
 
 abbrev pub noRoom : (place needed : ℕ) → Refusal
-noRoom p n = refusal NoRoom p n
+noRoom p n = refusing NoRoom p (met n 0 0 0 0 0 0 0 0 0)
 
 -- an index is asked of a record and has no place of its own: 0 stands there
 abbrev pub noField : (index : ℕ) → Refusal
-noField i = refusal NoField 0 i
+noField i = refusing NoField 0 (met 0 0 0 0 0 0 0 i 0 0)
 
 abbrev pub trailing : (place left : ℕ) → Refusal
-trailing p n = refusal Trailing p n
+trailing p n = refusing Trailing p (met 0 0 0 0 0 0 0 0 n 0)
 
 abbrev pub badKind : (kind : ℕ) → Refusal
-badKind k = refusal BadKind 0 k
+badKind k = refusing BadKind 0 (met 0 0 0 0 0 0 0 0 0 k)
 
 abbrev pub oversize : Refusal
-oversize = refusal Oversize 0 4097
+oversize = refusing Oversize 0 (met 0 0 0 0 0 0 0 0 0 0)

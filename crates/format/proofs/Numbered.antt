@@ -8,7 +8,8 @@ use lib.ListN.{length}
 use lib.Dec.{leb, ltb}
 use borrow.Author.Tests.{lt-leb, ltb-true}
 use Rattle.faults.specs.Faults.{badKind}
-use Rattle.wire.specs.Reading.{Ans, refused, Parsed, read, endOf}
+use Rattle.wire.specs.Records.{Ans, refused, Parsed}
+use Rattle.wire.specs.Reading.{read, endOf}
 use Rattle.wire.proofs.Search.{known}
 use Rattle.format.specs.Kinds.{kinds, isKind, layoutOf, readKind}
 use Rattle.codes.proofs.Choices.{Unmatched}

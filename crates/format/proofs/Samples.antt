@@ -6,7 +6,8 @@ use lib.ListN.{replicate}
 use Rattle.faults.specs.Faults.{short, unknownCode, noSuchArm, tooLong, tooManyItems}
 use Rattle.wire.specs.Bytes.{be}
 use Rattle.wire.specs.Layout.{_then_}
-use Rattle.wire.specs.Reading.{num, tag, span, Ans, refused, Parsed, parsed, piece, field, list, read}
+use Rattle.wire.specs.Records.{num, tag, span, Ans, refused, Parsed, parsed}
+use Rattle.wire.specs.Reading.{piece, field, list, read}
 use Rattle.codes.specs.Codes.{algorithms, curves, isAlgorithm, isCurve, null, aes, rsaes, ecc, sha1}
 use Rattle.format.specs.Kinds.{tpmuHaArm, tpmuAsymSchemeArm, tpmuKdfSchemeArm, tpmuSymKeyBitsArm, tpmuSymModeArm, tpmuPublicParmsArm, tpmuPublicIdArm, empty, digestOf, tpmsSchemeHash, tpmuHa, tpmuAsymScheme, tpmuKdfScheme, tpmuSymKeyBits, tpmuSymMode, tpmuPublicParms, tpmuPublicId, tpmtHa, tpmtSymDef, tpmtKdfScheme, tpmtAsymScheme, tpmsEccParms, tpmsEccPoint, tpmtPublic, tpmsPcrSelection, tpmlPcrSelection, kinds, layoutOf, readKind}
 

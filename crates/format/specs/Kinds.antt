@@ -7,7 +7,8 @@ use lib.Dec.{leb, ltb}
 use Rattle.faults.specs.Faults.{badKind}
 use Rattle.wire.specs.declared.choice.Choice.{Choice}
 use Rattle.wire.specs.Layout.{Layout, stop, noArm, number, buffer, counted, one, free, _then_}
-use Rattle.wire.specs.Reading.{Reader, Parsed, refused, read}
+use Rattle.wire.specs.Records.{Parsed, refused}
+use Rattle.wire.specs.Reading.{Reader, read}
 use Rattle.wire.specs.Unions.{Row, row, own, armOf, bodyOf, union}
 use Rattle.format.specs.declared.list.ListOf.{ListOf}
 use Rattle.format.specs.declared.list.ListOf.the-variants.{PcrSelection}

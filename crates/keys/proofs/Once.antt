@@ -2,7 +2,7 @@
 use mathlib.Core.Path.{refl}
 use mathlib.Core.List.{[], _∷_}
 use Rattle.wire.proofs.Once.{Injective, Once, number-once, span-once, both, fields, holds, bare, union, answers}
-use Rattle.wire.specs.Reading.{num}
+use Rattle.wire.specs.Records.{num}
 use Rattle.codes.specs.Codes.{rsa, keyedHash, null, ecc, symCipher}
 use Rattle.codes.proofs.Once.{tpm-alg-id-once}
 use Rattle.parameters.proofs.Once.{tpmu-public-parms-once}

@@ -1,7 +1,7 @@
 -- The parts of a public area, in wire order; of a union the arm that it holds comes first. Assumes nothing.
 use mathlib.Core.List.{List, [], _∷_, _++_}
 use Rattle.wire.specs.Answers.{spanPart}
-use Rattle.wire.specs.Reading.{Part, num, tag}
+use Rattle.wire.specs.Records.{Part, num, tag}
 use Rattle.codes.specs.Codes.{rsa, keyedHash, null, ecc, symCipher}
 use Rattle.parameters.specs.Parts.{tpmuPublicParmsParts}
 use Rattle.keys.specs.declared.tpms.TpmsEccPoint.{TpmsEccPoint}

@@ -12,7 +12,8 @@ use Rattle.faults.specs.declared.Refusal.{Refusal}
 use Rattle.faults.specs.Faults.{paper, noRoom, badKind, oversize}
 use Rattle.wire.specs.declared.measure.Measure.{Measure}
 use Rattle.wire.specs.Bytes.{Bytes}
-use Rattle.wire.specs.Reading.{Ans, Part, found, refused, Parsed, parsed, endOf}
+use Rattle.wire.specs.Records.{Ans, Part, found, refused, Parsed, parsed}
+use Rattle.wire.specs.Reading.{endOf}
 use Rattle.wire.specs.Answers.{measureAnswer}
 use Rattle.wire.proofs.Rest.{told}
 use Rattle.wire.proofs.Steps.{found-refused, found-same, refused-same, next-found}

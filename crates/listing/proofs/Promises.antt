@@ -12,7 +12,8 @@ use Rattle.wire.specs.declared.measure.Measure.{Measure}
 use Rattle.wire.specs.Bytes.{be}
 use Rattle.wire.specs.Layout.{_then_}
 use Rattle.wire.specs.Grammar.{Token, Spells, placed}
-use Rattle.wire.specs.Reading.{refused, parsed, read, field, piece}
+use Rattle.wire.specs.Records.{refused, parsed}
+use Rattle.wire.specs.Reading.{read, field, piece}
 use Rattle.wire.specs.Refusals.{Refuses}
 use Rattle.wire.proofs.Answers.{measure-answer-once}
 use Rattle.codes.specs.Codes.{isAlgorithm, algorithms}

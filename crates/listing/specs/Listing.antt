@@ -8,7 +8,8 @@ use lib.Dec.{leb}
 use Rattle.faults.specs.Faults.{paper, noRoom, badKind, oversize}
 use Rattle.wire.specs.declared.measure.Measure.{Measure}
 use Rattle.wire.specs.Answers.{measureAnswer}
-use Rattle.wire.specs.Reading.{Ans, found, refused, Parsed, read}
+use Rattle.wire.specs.Records.{Ans, found, refused, Parsed}
+use Rattle.wire.specs.Reading.{read}
 use Rattle.format.specs.Kinds.{isKind, layoutOf}
 use Rattle.wire.specs.Lines.{lines}
 use Rattle.text.specs.Text.{linesText, readText, refusedText}

@@ -13,7 +13,8 @@ use Rattle.wire.specs.declared.measure.Measure.{Measure}
 use Rattle.wire.specs.declared.span.Span.{Span}
 use Rattle.wire.specs.Answers.{startOf, lenOf, spanPart, measureAnswer}
 use Rattle.wire.specs.Bytes.{Bytes, be}
-use Rattle.wire.specs.Reading.{Part, num, tag, span, Ans, found, refused, next, Parsed, Reader, walk, endOf, read}
+use Rattle.wire.specs.Records.{Part, num, tag, span, Ans, found, refused, next, Parsed}
+use Rattle.wire.specs.Reading.{Reader, walk, endOf, read}
 use Rattle.wire.specs.Writing.{cut, whole, moved}
 use Rattle.wire.specs.Fields.{pickField}
 use Rattle.wire.specs.Items.{pickItem, itemOf}

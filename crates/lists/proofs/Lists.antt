@@ -17,7 +17,8 @@ use Rattle.wire.specs.Answers.{startOf, lenOf, measureAnswer}
 use Rattle.wire.specs.Bytes.{Bytes, be}
 use Rattle.wire.specs.Layout.{free, lengthTo, one}
 use Rattle.wire.specs.Lines.{line, aCode, aNumber, spanLine, lines, ofRead}
-use Rattle.wire.specs.Reading.{Part, num, tag, span, Ans, found, refused, next, left, Parsed, parsed, Reader, piece, field, walk, list, endOf, read}
+use Rattle.wire.specs.Records.{Part, num, tag, span, Ans, found, refused, next, left, Parsed, parsed}
+use Rattle.wire.specs.Reading.{Reader, piece, field, walk, list, endOf, read}
 use Rattle.wire.specs.Writing.{cut, whole, moved, further}
 use Rattle.wire.specs.Fields.{partOf, sizeOf}
 use Rattle.wire.proofs.Cuts.{sized-part, unsized}

@@ -5,7 +5,8 @@ use mathlib.Core.List.{List, [], _∷_}
 use lib.ListN.{length}
 use Rattle.wire.specs.Answers.{startOf, lenOf, spanPart}
 use Rattle.wire.specs.Lines.{lines}
-use Rattle.wire.specs.Reading.{Part, num, Ans, found, refused, Parsed, parsed, read}
+use Rattle.wire.specs.Records.{Part, num, Ans, found, refused, Parsed, parsed}
+use Rattle.wire.specs.Reading.{read}
 use Rattle.wire.specs.Writing.{cut}
 use Rattle.format.specs.declared.list.ListOf.{ListOf}
 use Rattle.format.specs.Kinds.{itemLayout}

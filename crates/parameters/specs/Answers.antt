@@ -1,5 +1,5 @@
 -- What the answers of the readers mean: the parts of the record that was found and the place where it ends, or the refusal. Assumes nothing.
-use Rattle.wire.specs.Reading.{Ans, refused, Parsed, parsed}
+use Rattle.wire.specs.Records.{Ans, refused, Parsed, parsed}
 use Rattle.parameters.specs.declared.tpms.TpmsKeyedhashParmsRead.{TpmsKeyedhashParmsRead}
 use Rattle.parameters.specs.declared.tpms.TpmsSymcipherParmsRead.{TpmsSymcipherParmsRead}
 use Rattle.parameters.specs.declared.tpms.TpmsRsaParmsRead.{TpmsRsaParmsRead}

@@ -1,6 +1,6 @@
 -- The parts of parameters, in wire order; of a union the arm that it holds comes first. Assumes nothing.
 use mathlib.Core.List.{List, [], _∷_, _++_}
-use Rattle.wire.specs.Reading.{Part, num, tag}
+use Rattle.wire.specs.Records.{Part, num, tag}
 use Rattle.codes.specs.Codes.{rsa, keyedHash, null, ecc, symCipher}
 use Rattle.ciphers.specs.Parts.{tpmtSymDefParts}
 use Rattle.schemes.specs.Parts.{tpmtKdfSchemeParts, tpmtKeyedhashSchemeParts, tpmtRsaSchemeParts, tpmtEccSchemeParts}

@@ -10,7 +10,7 @@ ghost use Prim.Native.Nat.{_+_, _%_, _≤_};
 ghost use lib.ListN.{length, take, drop};
 ghost use Rattle.wire.specs.Answers.{widthOf, startOf, lenOf, measureAnswer};
 ghost use Rattle.wire.specs.Bytes.{digits};
-ghost use Rattle.wire.specs.Reading.{found};
+ghost use Rattle.wire.specs.Records.{found};
 ghost use Rattle.wire.specs.Writing.{cut};
 ghost use Rattle.wire.specs.Filling.{written, filled};
 

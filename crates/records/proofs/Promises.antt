@@ -9,7 +9,8 @@ use Rattle.faults.specs.declared.Fault.the-variants.{Short}
 use Rattle.faults.specs.declared.Refusal.{Refusal}
 use Rattle.wire.specs.Bytes.{Bytes}
 use Rattle.wire.specs.Layout.{Layout}
-use Rattle.wire.specs.Reading.{found, refused, Parsed, parsed, read, endOf}
+use Rattle.wire.specs.Records.{found, refused, Parsed, parsed}
+use Rattle.wire.specs.Reading.{read, endOf}
 use Rattle.wire.specs.Grammar.{Token, Spells, Starts, placed, shown}
 use Rattle.wire.specs.Refusals.{Refuses}
 use Rattle.wire.specs.Editions.{Later, Newer, Foreign}

@@ -17,7 +17,8 @@ use Rattle.wire.specs.declared.measure.Measure.{Measure}
 use Rattle.wire.specs.Answers.{measureAnswer}
 use Rattle.wire.specs.Bytes.{Bytes}
 use Rattle.wire.specs.Layout.{Layout, noArm}
-use Rattle.wire.specs.Reading.{Part, Ans, refused, Parsed, parsed, left, read, readWhole, endOf}
+use Rattle.wire.specs.Records.{Part, Ans, refused, Parsed, parsed, left}
+use Rattle.wire.specs.Reading.{read, readWhole, endOf}
 use Rattle.wire.specs.Grammar.{Token, Spells, Stands, Starts, placed, shown}
 use Rattle.wire.specs.Refusals.{Refuses}
 use Rattle.wire.specs.Unions.{isArm}

@@ -6,7 +6,8 @@ use mathlib.Core.List.{List}
 use Rattle.faults.specs.declared.Refusal.{Refusal}
 use Rattle.wire.specs.declared.choice.Choice.{Choice}
 use Rattle.wire.specs.declared.choice.Choice.the-variants.{The}
-use Rattle.wire.specs.Reading.{tag, refused, read}
+use Rattle.wire.specs.Records.{tag, refused}
+use Rattle.wire.specs.Reading.{read}
 use Rattle.wire.proofs.Search.{Shows, shown, front-no, chosen}
 use Rattle.format.specs.Kinds.{tpmuAsymSchemeTable, tpmuAsymSchemeArm, tpmuSigSchemeTable, tpmuSigSchemeArm, tpmsSchemeHash, tpmuSigSchemeBody, tpmuSigScheme}
 use Rattle.codes.proofs.Choices.{chosen-has}

@@ -1,7 +1,7 @@
 -- The parts of a sensitive area, in wire order; of a union the arm that it holds comes first. Assumes nothing.
 use mathlib.Core.List.{List, [], _∷_}
 use Rattle.wire.specs.Answers.{spanPart}
-use Rattle.wire.specs.Reading.{Part, num, tag}
+use Rattle.wire.specs.Records.{Part, num, tag}
 use Rattle.codes.specs.Codes.{rsa, keyedHash, ecc, symCipher}
 use Rattle.sensitive.specs.declared.tpmu.TpmuSensitiveComposite.{TpmuSensitiveComposite}
 use Rattle.sensitive.specs.declared.tpmt.TpmtSensitive.{TpmtSensitive}

@@ -1,7 +1,7 @@
 -- The parts of signatures, in wire order; of a union the arm that it holds comes first. Assumes nothing.
 use mathlib.Core.List.{List, [], _∷_}
 use Rattle.wire.specs.Answers.{spanPart}
-use Rattle.wire.specs.Reading.{Part, num, tag}
+use Rattle.wire.specs.Records.{Part, num, tag}
 use Rattle.codes.specs.Codes.{hmac, null, rsassa, rsapss, ecdsa, ecdaa, sm2, ecschnorr}
 use Rattle.ciphers.specs.Parts.{tpmtHaParts}
 use Rattle.signatures.specs.declared.tpms.TpmsSignatureRsa.{TpmsSignatureRsa}

@@ -6,7 +6,7 @@ use Rattle.faults.specs.Faults.{noField}
 use Rattle.wire.specs.declared.span.Span.{Span}
 use Rattle.wire.specs.Answers.{startOf, lenOf, spanPart}
 use Rattle.wire.specs.Layout.{Layout}
-use Rattle.wire.specs.Reading.{Part, num, tag, span, Ans, refused}
+use Rattle.wire.specs.Records.{Part, num, tag, span, Ans, refused}
 use Rattle.wire.specs.Writing.{cut}
 use Rattle.wire.specs.Fields.{spans, pickField, fieldOf, partOf, sizeOf}
 use Rattle.format.specs.declared.list.ListOf.{ListOf}

@@ -10,7 +10,7 @@ use Rattle.faults.specs.Faults.{mismatch, tooLong}
 use Rattle.wire.specs.declared.span.Span.{Span}
 use Rattle.wire.specs.Answers.{startOf, lenOf}
 use Rattle.wire.specs.Bytes.{digits}
-use Rattle.wire.specs.Reading.{found, refused}
+use Rattle.wire.specs.Records.{found, refused}
 use Rattle.wire.specs.Writing.{cut, spelt}
 use Rattle.wire.specs.Fields.{partOf, sizeOf}
 use Rattle.wire.proofs.Digits.{length-digits}

@@ -15,7 +15,7 @@ use Rattle.wire.specs.declared.measure.Measure.{Measure}
 use Rattle.wire.specs.declared.span.Span.{Span}
 use Rattle.wire.specs.Answers.{startOf, lenOf, measureAnswer}
 use Rattle.wire.specs.Bytes.{digits}
-use Rattle.wire.specs.Reading.{Ans, found, refused}
+use Rattle.wire.specs.Records.{Ans, found, refused}
 use Rattle.wire.specs.Writing.{cut}
 use Rattle.wire.specs.Filling.{written, filled}
 use Rattle.wire.proofs.Steps.{found-refused, found-same, when-found}

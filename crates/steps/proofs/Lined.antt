@@ -13,7 +13,7 @@ use Rattle.wire.specs.declared.measure.Measure.{Measure}
 use Rattle.wire.specs.declared.span.Span.{Span}
 use Rattle.wire.specs.Answers.{startOf, lenOf, measureAnswer}
 use Rattle.wire.specs.Lines.{Says, Line, line, aNumber, theBytes, spanLine}
-use Rattle.wire.specs.Reading.{found}
+use Rattle.wire.specs.Records.{found}
 use Rattle.wire.specs.Layout.{lengthTo}
 use Rattle.wire.specs.Writing.{cut, spelt}
 use Rattle.wire.specs.Fields.{partOf}

@@ -12,7 +12,8 @@ use Rattle.wire.specs.Answers.{widthOf, startOf, lenOf}
 use Rattle.wire.specs.Bytes.{be, digits}
 use Rattle.wire.specs.Layout.{Rule, free, listed, fixed, lengthTo, countTo, Layout}
 use Rattle.wire.specs.Lines.{Says, aCode, aNumber, theBytes, Line, line, sayNumber, lines, ofRead}
-use Rattle.wire.specs.Reading.{Part, num, span, found, next, left, Parsed, piece, field, walk, list, read}
+use Rattle.wire.specs.Records.{Part, num, span, found, next, left, Parsed}
+use Rattle.wire.specs.Reading.{piece, field, walk, list, read}
 use Rattle.wire.specs.Writing.{cut, whole, lay}
 use Rattle.wire.proofs.Digits.{length-digits}
 use Rattle.wire.proofs.Steps.{found-same, parsed-same, next-found}

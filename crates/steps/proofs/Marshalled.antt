@@ -13,7 +13,7 @@ use Rattle.faults.specs.Faults.{refusal, noRoom}
 use Rattle.wire.specs.declared.measure.Measure.{Measure}
 use Rattle.wire.specs.Answers.{measureAnswer}
 use Rattle.wire.specs.Layout.{Layout}
-use Rattle.wire.specs.Reading.{Part, Ans, found, refused}
+use Rattle.wire.specs.Records.{Part, Ans, found, refused}
 use Rattle.wire.specs.Writing.{lay}
 use Rattle.wire.specs.Filling.{written, filled}
 use Rattle.steps.specs.Steps.{Step, spell}

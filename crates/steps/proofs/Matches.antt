@@ -6,7 +6,7 @@ use mathlib.Core.List.{List, [], _∷_}
 use lib.Dec.{eqb}
 use borrow.Author.Tests.{eq-eqb, ne-eqb, eqb-true}
 use Rattle.wire.specs.declared.choice.Choice.{Choice}
-use Rattle.wire.specs.Reading.{Part}
+use Rattle.wire.specs.Records.{Part}
 use Rattle.wire.specs.Unions.{Row, armOf, isArm, held}
 pub use borrow.Author.Needs.{needs}
 

@@ -14,7 +14,7 @@ use Rattle.wire.specs.Answers.{widthOf}
 use Rattle.wire.specs.Bytes.{digits}
 use Rattle.wire.specs.Layout.{Rule, free, allows, breach}
 use Rattle.wire.specs.Lines.{line, sayNumber}
-use Rattle.wire.specs.Reading.{found}
+use Rattle.wire.specs.Records.{found}
 use Rattle.wire.specs.Writing.{spelt}
 use Rattle.wire.proofs.Digits.{length-digits}
 use Rattle.codes.specs.Codes.{isYesNo, isMagic}

@@ -14,7 +14,7 @@ use Rattle.wire.specs.Answers.{widthOf, startOf, lenOf, spanPart}
 use Rattle.wire.specs.Bytes.{digits}
 use Rattle.wire.specs.Layout.{Rule, lengthTo, Layout, stop, arm, number, plain, buffer, counted, _then_}
 use Rattle.wire.specs.Lines.{aNumber, sayNumber, line, spanLine, lines}
-use Rattle.wire.specs.Reading.{Part, num, tag, span, Ans, found, refused, next}
+use Rattle.wire.specs.Records.{Part, num, tag, span, Ans, found, refused, next}
 use Rattle.wire.specs.Writing.{cut, spelt, whole, moved, ahead, onto, lay}
 use Rattle.wire.specs.Fields.{spans}
 use Rattle.wire.specs.Unions.{union, isArm}

@@ -12,7 +12,8 @@ use Rattle.faults.specs.declared.Refusal.{Refusal}
 use Rattle.faults.specs.Faults.{short}
 use Rattle.wire.specs.Bytes.{be}
 use Rattle.wire.specs.Layout.{Rule, free, listed, fixed, lengthTo, countTo, allows, breach, stop, buffer}
-use Rattle.wire.specs.Reading.{Part, num, Ans, found, refused, next, also, left, Parsed, piece, field, walk, list, endOf, read}
+use Rattle.wire.specs.Records.{Part, num, Ans, found, refused, next, left, Parsed}
+use Rattle.wire.specs.Reading.{also, piece, field, walk, list, endOf, read}
 use Rattle.wire.specs.Writing.{whole}
 use Rattle.wire.proofs.Steps.{found-same, next-found, when-found}
 use Rattle.codes.specs.Codes.{alg}

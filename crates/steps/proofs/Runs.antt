@@ -14,7 +14,8 @@ use Rattle.wire.specs.declared.width.Width.{Width}
 use Rattle.wire.specs.Answers.{widthOf, startOf, lenOf}
 use Rattle.wire.specs.Bytes.{digits}
 use Rattle.wire.specs.Layout.{lengthTo}
-use Rattle.wire.specs.Reading.{Ans, found, refused, next, list, read}
+use Rattle.wire.specs.Records.{Ans, found, refused, next}
+use Rattle.wire.specs.Reading.{list, read}
 use Rattle.wire.specs.Writing.{cut, spelt, whole, onto}
 use Rattle.wire.specs.Filling.{written, filled}
 use Rattle.wire.specs.Fields.{pickField}

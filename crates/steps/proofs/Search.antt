@@ -12,7 +12,7 @@ use Rattle.wire.specs.declared.span.Span.{Span}
 use Rattle.wire.specs.declared.width.Width.{Width}
 use Rattle.wire.specs.Answers.{widthOf, spanPart}
 use Rattle.wire.specs.Layout.{Rule, Layout, stop, number, buffer, counted, _then_}
-use Rattle.wire.specs.Reading.{Part, num, tag}
+use Rattle.wire.specs.Records.{Part, num, tag}
 use Rattle.wire.specs.Parts.{onArm}
 use Rattle.wire.specs.Unions.{held, union, isArm}
 use Rattle.format.specs.declared.list.ListOf.{ListOf}

@@ -10,7 +10,7 @@ use Rattle.wire.specs.declared.choice.Choice.{Choice}
 use Rattle.wire.specs.Answers.{widthOf, startOf, lenOf}
 use Rattle.wire.specs.Bytes.{digits}
 use Rattle.wire.specs.Layout.{lengthTo}
-use Rattle.wire.specs.Reading.{found}
+use Rattle.wire.specs.Records.{found}
 use Rattle.wire.specs.Writing.{cut, spelt, whole}
 use Rattle.wire.proofs.Steps.{found-refused, found-same, next-found, when-found}
 use Rattle.wire.proofs.Then.{whole-same}

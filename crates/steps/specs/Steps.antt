@@ -13,7 +13,8 @@ use Rattle.wire.specs.Answers.{widthOf, startOf, lenOf, spanPart}
 use Rattle.wire.specs.Bytes.{digits}
 use Rattle.wire.specs.Layout.{Rule, lengthTo, Layout}
 use Rattle.wire.specs.Lines.{aNumber, sayNumber, Line, line, spanLine, itemLines, listLines, lines}
-use Rattle.wire.specs.Reading.{Part, Ans, found, refused, next, read}
+use Rattle.wire.specs.Records.{Part, Ans, found, refused, next}
+use Rattle.wire.specs.Reading.{read}
 use Rattle.wire.specs.Writing.{cut, spelt, whole, moved, ahead, onto, lay, odd}
 use Rattle.wire.specs.Fields.{spans}
 use Rattle.wire.specs.Unwritten.{Shaped}

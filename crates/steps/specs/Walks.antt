@@ -15,7 +15,7 @@ use Rattle.wire.specs.Answers.{widthOf, startOf, lenOf}
 use Rattle.wire.specs.Bytes.{digits}
 use Rattle.wire.specs.Layout.{Rule, Layout}
 use Rattle.wire.specs.Lines.{Says, aCode, aNumber, theBytes, Line, line}
-use Rattle.wire.specs.Reading.{Part, Ans, found, refused, next}
+use Rattle.wire.specs.Records.{Part, Ans, found, refused, next}
 use Rattle.wire.specs.Writing.{cut}
 use Rattle.wire.specs.Filling.{written, filled}
 use Rattle.text.specs.declared.line.Word.{Word}

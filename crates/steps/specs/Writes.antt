@@ -5,7 +5,7 @@ use mathlib.Core.List.{List}
 use Rattle.wire.specs.declared.measure.Measure.{Measure}
 use Rattle.wire.specs.Answers.{measureAnswer}
 use Rattle.wire.specs.Layout.{Layout}
-use Rattle.wire.specs.Reading.{Part}
+use Rattle.wire.specs.Records.{Part}
 use Rattle.wire.specs.Writing.{lay}
 use Rattle.wire.specs.Filling.{written, filled}
 use Rattle.wire.specs.Unwritten.{Shaped}

@@ -25,7 +25,7 @@ ghost use Rattle.wire.specs.declared.width.Width.the-variants.{One, Two, Four, 
 ghost use Rattle.wire.specs.Answers.{widthOf};
 ghost use Rattle.wire.specs.Bytes.{digits};
 ghost use Rattle.wire.specs.Layout.{free};
-ghost use Rattle.wire.specs.Reading.{found};
+ghost use Rattle.wire.specs.Records.{found};
 ghost use Rattle.codes.specs.Codes.{alg, curve, attestation, yesNo, magic};
 ghost use Rattle.steps.specs.Walks.{here, judging, refusing, Moves, putOne, numberWalk, Numbers, Dues};
 

@@ -8,7 +8,7 @@ use lib.ListN.{length, take, drop, set, length-append, length-drop, take-append-
 use lib.Seq.{take-at, drop-at, drop-drop, length-take-le, sets, sets-eq}
 use lib.Dec.{leb}
 use borrow.Author.Tests.{le-leb}
-use Rattle.wire.specs.Reading.{found}
+use Rattle.wire.specs.Records.{found}
 use Rattle.wire.specs.Filling.{filled}
 use Rattle.text.specs.Puts.{Puts}
 

@@ -5,7 +5,7 @@ use Rattle.wire.specs.declared.read.NumberRead.{NumberRead}
 use Rattle.wire.specs.declared.read.SpanRead.{SpanRead}
 use Rattle.wire.specs.declared.measure.Measure.{Measure}
 use Rattle.wire.specs.Answers.{numberAnswer, spanAnswer, measureAnswer}
-use Rattle.wire.specs.Reading.{found, refused}
+use Rattle.wire.specs.Records.{found, refused}
 use Rattle.wire.proofs.Once.{Injective, undone, number-once, span-once, answers}
 
 pub number-answer-once : Injective numberAnswer

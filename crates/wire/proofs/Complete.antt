@@ -7,7 +7,8 @@ use lib.ListN.{length, length-append}
 use borrow.Author.Tests.{le-leb}
 use Rattle.wire.specs.Bytes.{Bytes, digits}
 use Rattle.wire.specs.Layout.{Layout, lengthTo, countTo}
-use Rattle.wire.specs.Reading.{Part, found, Parsed, parsed, Reader, walk, list, read}
+use Rattle.wire.specs.Records.{Part, found, Parsed, parsed}
+use Rattle.wire.specs.Reading.{Reader, walk, list, read}
 use Rattle.wire.specs.Grammar.{Token, Spells, Items, ends, holds, says, shows, sizes, counts, none, more, placed, shown, Stands}
 use Rattle.wire.proofs.Digits.{length-digits, bytes-digits}
 use Rattle.wire.proofs.Stand.{stands-same, stands-front, stands-back, bytes-append}

@@ -10,7 +10,7 @@ use lib.Dec.{leb}
 use borrow.Author.Tests.{leb-true}
 use Rattle.faults.specs.declared.Refusal.{Refusal}
 use Rattle.faults.specs.Faults.{badSpan}
-use Rattle.wire.specs.Reading.{Ans, found, refused}
+use Rattle.wire.specs.Records.{Ans, found, refused}
 use Rattle.wire.specs.Writing.{cut}
 use Rattle.wire.specs.Fields.{partOf, sizeOf}
 use Rattle.wire.proofs.Steps.{found-refused}

@@ -11,7 +11,7 @@ use lib.Seq.{take-suc, take-length, set-at, length-take-le, paste, paste-zero, p
 use lib.Dec.{leb}
 use borrow.Author.Tests.{le-leb, lt-leb}
 use Rattle.faults.specs.Faults.{noRoom}
-use Rattle.wire.specs.Reading.{found, refused}
+use Rattle.wire.specs.Records.{found, refused}
 use Rattle.wire.specs.Filling.{written, filled}
 
 -- ---- a number, by any way to spell numbers in digits

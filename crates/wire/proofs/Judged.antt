@@ -10,7 +10,8 @@ use Rattle.faults.specs.declared.Refusal.{Refusal}
 use Rattle.faults.specs.Faults.{unknownCode, badValue}
 use Rattle.wire.specs.Bytes.{be}
 use Rattle.wire.specs.Layout.{Rule, allows, breach, free, one}
-use Rattle.wire.specs.Reading.{Part, num, tag, span, Ans, found, refused, Parsed, parsed, next, also, field, piece, read}
+use Rattle.wire.specs.Records.{Part, num, tag, span, Ans, found, refused, Parsed, parsed, next}
+use Rattle.wire.specs.Reading.{also, field, piece, read}
 use Rattle.wire.proofs.Stand.{bytes-of}
 use Rattle.wire.proofs.Steps.{next-found, field-found, parsed-same}
 use Rattle.wire.proofs.Search.{via, Shows, same}

@@ -13,7 +13,8 @@ use Rattle.faults.specs.declared.Fault.the-variants.{Short}
 use Rattle.faults.specs.Faults.{short, noSuchArm}
 use Rattle.wire.specs.Bytes.{Bytes, digits}
 use Rattle.wire.specs.Layout.{Rule, Layout, arm, number, plain, buffer, counted, allows, breach}
-use Rattle.wire.specs.Reading.{refused, read}
+use Rattle.wire.specs.Records.{refused}
+use Rattle.wire.specs.Reading.{read}
 use Rattle.wire.specs.Grammar.{Token, Spells, Items, ends, holds, says, shows, sizes, counts, none, more, placed, Stands}
 use Rattle.wire.specs.Refusals.{not-allowed, Refuses, RefusesItems, no-arm, no-number, in-list, past-arm, past-number, past-bytes, past-buffer, past-list, in-item, past-item}
 use Rattle.wire.specs.Editions.{LaterRule, Later, stop-same, arm-new, arm-same, number-later, plain-same, buffer-same, counted-same, Newer, Foreign}

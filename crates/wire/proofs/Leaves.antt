@@ -12,7 +12,8 @@ use Rattle.faults.specs.declared.Refusal.{Refusal}
 use Rattle.faults.specs.Faults.{short, tooLong, tooManyItems}
 use Rattle.wire.specs.Bytes.{be}
 use Rattle.wire.specs.Layout.{Rule, free, lengthTo, countTo, allows, breach, Layout, stop, plain, buffer, counted, one}
-use Rattle.wire.specs.Reading.{num, span, Ans, found, refused, Parsed, parsed, next, also, Reader, left, piece, field, walk, list, read}
+use Rattle.wire.specs.Records.{num, span, Ans, found, refused, Parsed, parsed, next, left}
+use Rattle.wire.specs.Reading.{also, Reader, piece, field, walk, list, read}
 use Rattle.wire.proofs.Steps.{found-refused, parsed-same, when-found}
 
 -- ---- what takes no bytes

@@ -10,7 +10,7 @@ use lib.Dec.{eqb}
 use Rattle.faults.specs.declared.Refusal.{Refusal}
 use Rattle.wire.specs.declared.span.Span.{Span}
 use Rattle.wire.specs.Answers.{spanPart}
-use Rattle.wire.specs.Reading.{Part, num, tag, span, Ans, found, refused, Parsed, parsed}
+use Rattle.wire.specs.Records.{Part, num, tag, span, Ans, found, refused, Parsed, parsed}
 
 -- f takes no two values to one
 abbrev pub Injective : {A B : Type 0} → (A → B) → Type 0

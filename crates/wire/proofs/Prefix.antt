@@ -8,7 +8,8 @@ use lib.ListN.{length, length-append}
 use Rattle.faults.specs.declared.Refusal.{Refusal}
 use Rattle.wire.specs.Bytes.{Bytes, digits}
 use Rattle.wire.specs.Layout.{Layout}
-use Rattle.wire.specs.Reading.{Ans, found, refused, Parsed, parsed, read}
+use Rattle.wire.specs.Records.{Ans, found, refused, Parsed, parsed}
+use Rattle.wire.specs.Reading.{read}
 use Rattle.wire.specs.Grammar.{Token, Spells, ends, holds, says, shows, sizes, counts, Stands, Starts, placed, shown}
 use Rattle.wire.proofs.Stand.{stands-start}
 use Rattle.wire.proofs.Steps.{found-refused, parsed-same}

@@ -12,7 +12,8 @@ use Rattle.faults.specs.declared.Refusal.{Refusal}
 use Rattle.faults.specs.Faults.{short}
 use Rattle.wire.specs.Bytes.{Bytes, be, digits}
 use Rattle.wire.specs.Layout.{Rule, Layout, stop, noArm, arm, number, plain, buffer, counted, lengthTo, countTo, allows, breach}
-use Rattle.wire.specs.Reading.{Part, num, tag, span, Ans, found, refused, next, also, Parsed, left, piece, field, walk, list, read}
+use Rattle.wire.specs.Records.{Part, num, tag, span, Ans, found, refused, next, Parsed, left}
+use Rattle.wire.specs.Reading.{also, piece, field, walk, list, read}
 use Rattle.wire.specs.Grammar.{Stands, Starts}
 use Rattle.wire.specs.Refusals.{Field, NoNumber, ends-early, not-allowed, Refuses, RefusesItems, no-arm, no-number, no-bytes, no-length, no-body, no-count, in-list, past-arm, past-number, past-bytes, past-buffer, past-list, in-item, past-item}
 use Rattle.wire.proofs.Digits.{length-digits, be-lt, digits-be}

@@ -9,7 +9,8 @@ use Rattle.faults.specs.Faults.{noSuchArm}
 use Rattle.wire.specs.declared.choice.Choice.{Choice}
 use Rattle.wire.specs.declared.choice.Choice.the-variants.{Nothing, The}
 use Rattle.wire.specs.Layout.{Rule, Layout, stop, arm, number, buffer, one, _then_}
-use Rattle.wire.specs.Reading.{Part, num, tag, span, Ans, found, Parsed, refused, parsed, next, also, field, read}
+use Rattle.wire.specs.Records.{Part, num, tag, span, Ans, found, Parsed, refused, parsed, next}
+use Rattle.wire.specs.Reading.{also, field, read}
 use Rattle.wire.specs.Unions.{union, isArm, held}
 use Rattle.wire.proofs.Then.{both, behind, behind-none, behind-also, read-then}
 pub use borrow.Author.Needs.{needs}

@@ -8,7 +8,8 @@ use lib.ListN.{length, take, drop, length-append}
 use lib.Dec.{eqb}
 use borrow.Author.Tests.{eqb-true}
 use Rattle.wire.specs.Layout.{Rule, lengthTo, allows, Layout, number, plain, buffer, counted, _then_}
-use Rattle.wire.specs.Reading.{Part, num, span, Ans, found, read}
+use Rattle.wire.specs.Records.{Part, num, span, Ans, found}
+use Rattle.wire.specs.Reading.{read}
 use Rattle.wire.specs.Writing.{cut, spelt, whole, moved, ahead, lay}
 use Rattle.wire.specs.Lines.{line, aNumber, spanLine, listLines, sayNumber, lines}
 use Rattle.wire.specs.Unwritten.{Shaped}

@@ -8,7 +8,8 @@ use lib.ListN.{length, length-append}
 use borrow.Author.Tests.{leb-true}
 use Rattle.wire.specs.Bytes.{Bytes, digits}
 use Rattle.wire.specs.Layout.{Rule, Layout, stop, noArm, arm, number, plain, buffer, counted, lengthTo, countTo, allows}
-use Rattle.wire.specs.Reading.{num, tag, span, found, Parsed, piece, field, walk, list, read}
+use Rattle.wire.specs.Records.{num, tag, span, found, Parsed}
+use Rattle.wire.specs.Reading.{piece, field, walk, list, read}
 use Rattle.wire.specs.Grammar.{value, held, bytes, Items, ends, holds, says, shows, sizes, counts, none, more, Stands, Starts}
 use Rattle.wire.proofs.Digits.{length-digits}
 use Rattle.wire.proofs.Stand.{stands-none, stands-join, stands-bytes}

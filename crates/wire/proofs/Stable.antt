@@ -13,7 +13,8 @@ use Rattle.faults.specs.declared.Refusal.{Refusal}
 use Rattle.faults.specs.Faults.{short}
 use Rattle.wire.specs.Bytes.{Bytes}
 use Rattle.wire.specs.Layout.{Rule, Layout, stop, noArm, arm, number, plain, buffer, counted, lengthTo, countTo}
-use Rattle.wire.specs.Reading.{Part, num, tag, span, Ans, found, refused, next, also, Parsed, parsed, Reader, left, piece, field, walk, list, read}
+use Rattle.wire.specs.Records.{Part, num, tag, span, Ans, found, refused, next, Parsed, parsed, left}
+use Rattle.wire.specs.Reading.{also, Reader, piece, field, walk, list, read}
 use Rattle.wire.specs.Grammar.{Token, Spells, Stands}
 use Rattle.wire.proofs.Stand.{stands-of, stands-left, stands-longer, stands-behind, bytes-front, bytes-append}
 use Rattle.wire.proofs.Steps.{found-refused, refused-same, piece-of}

@@ -6,7 +6,7 @@ use mathlib.Core.List.{List, [], _∷_, _++_, append-assoc}
 use lib.ListN.{length, getD, take, drop, length-append, length-drop, take-append-drop}
 use lib.Seq.{drop-append-le, take-at, drop-at, drop-drop, length-take-le}
 use Rattle.wire.specs.Bytes.{Bytes}
-use Rattle.wire.specs.Reading.{left}
+use Rattle.wire.specs.Records.{left}
 use Rattle.wire.specs.Grammar.{Stands}
 
 -- ---- lists of bytes, in parts

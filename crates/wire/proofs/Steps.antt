@@ -10,7 +10,8 @@ use borrow.Author.Tests.{le-leb, leb-true}
 use Rattle.faults.specs.declared.Refusal.{Refusal}
 use Rattle.wire.specs.Bytes.{Bytes, be, digits}
 use Rattle.wire.specs.Layout.{Rule, allows, breach}
-use Rattle.wire.specs.Reading.{Part, Ans, found, refused, Parsed, parsed, next, also, left, piece, field}
+use Rattle.wire.specs.Records.{Part, Ans, found, refused, Parsed, parsed, next, left}
+use Rattle.wire.specs.Reading.{also, piece, field}
 use Rattle.wire.specs.Grammar.{Stands}
 use Rattle.wire.proofs.Digits.{length-digits, be-digits, be-lt, digits-be}
 use Rattle.wire.proofs.Stand.{stands-of, stands-same, stands-left, stands-bytes}

@@ -13,7 +13,8 @@ use Rattle.faults.specs.Faults.{mismatch}
 use Rattle.wire.specs.Bytes.{digits}
 use Rattle.wire.specs.Grammar.{Token, Spells, ends, holds, says, shows, sizes, counts}
 use Rattle.wire.specs.Layout.{Rule, allows, Layout, stop, noArm, arm, number, plain, buffer, counted, _then_, lengthTo}
-use Rattle.wire.specs.Reading.{Part, num, tag, span, Ans, found, refused, Parsed, parsed, next, also, piece, field, list, read}
+use Rattle.wire.specs.Records.{Part, num, tag, span, Ans, found, refused, Parsed, parsed, next}
+use Rattle.wire.specs.Reading.{also, piece, field, list, read}
 use Rattle.wire.specs.Writing.{cut, spelt, whole, moved, ahead, onto, lay}
 use Rattle.wire.specs.Unwritten.{Shaped}
 use Rattle.wire.proofs.Digits.{length-digits}

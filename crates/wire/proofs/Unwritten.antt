@@ -12,7 +12,8 @@ use Rattle.faults.specs.declared.Refusal.{Refusal}
 use Rattle.faults.specs.Faults.{badSpan, trailing}
 use Rattle.wire.specs.Bytes.{Bytes, digits}
 use Rattle.wire.specs.Layout.{Rule, Layout, stop, noArm, arm, number, plain, buffer, counted, lengthTo, allows, breach}
-use Rattle.wire.specs.Reading.{Part, num, tag, span, Ans, found, refused, next, Parsed, list, read}
+use Rattle.wire.specs.Records.{Part, num, tag, span, Ans, found, refused, next, Parsed}
+use Rattle.wire.specs.Reading.{list, read}
 use Rattle.wire.specs.Grammar.{Token, Spells, ends, holds, says, shows, sizes, counts, placed}
 use Rattle.wire.specs.Refusals.{Refuses}
 use Rattle.wire.specs.Writing.{cut, spelt, whole, further, moved, lay}

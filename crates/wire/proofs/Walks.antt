@@ -4,7 +4,8 @@ use native.Mathlib.Omega.{arith}
 use mathlib.Core.Path.{_≡_}
 use mathlib.Core.List.{List}
 use Rattle.faults.specs.declared.Refusal.{Refusal}
-use Rattle.wire.specs.Reading.{Part, Parsed, parsed, found, refused, Reader, walk}
+use Rattle.wire.specs.Records.{Part, Parsed, parsed, found, refused}
+use Rattle.wire.specs.Reading.{Reader, walk}
 
 module _ (item : Reader Parsed) (src : List ℕ) (n i at : ℕ) where
   left : i < n → n - i ≡ suc (n - (i + 1))

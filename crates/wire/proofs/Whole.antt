@@ -9,7 +9,8 @@ use lib.Dec.{leb}
 use borrow.Author.Tests.{le-leb, leb-true}
 use Rattle.faults.specs.Faults.{trailing}
 use Rattle.wire.specs.Layout.{Layout}
-use Rattle.wire.specs.Reading.{found, refused, Parsed, parsed, left, read, nothingBehind, readWhole}
+use Rattle.wire.specs.Records.{found, refused, Parsed, parsed, left}
+use Rattle.wire.specs.Reading.{read, nothingBehind, readWhole}
 use Rattle.wire.specs.Grammar.{Token, Spells, Stands, placed}
 use Rattle.wire.proofs.Stand.{stands-behind}
 use Rattle.wire.proofs.Steps.{next-found, found-same, when-found}

@@ -9,7 +9,8 @@ use Rattle.faults.specs.Faults.{trailing}
 use Rattle.wire.specs.declared.measure.Measure.{Measure}
 use Rattle.wire.specs.Answers.{measureAnswer}
 use Rattle.wire.specs.Layout.{Layout}
-use Rattle.wire.specs.Reading.{Part, Ans, found, refused, next, Parsed, parsed, left, read, readWhole, nothingBehind, endOf}
+use Rattle.wire.specs.Records.{Part, Ans, found, refused, next, Parsed, parsed, left}
+use Rattle.wire.specs.Reading.{read, readWhole, nothingBehind, endOf}
 use Rattle.wire.proofs.Steps.{found-same, found-refused}
 pub use borrow.Author.Needs.{needs}
 

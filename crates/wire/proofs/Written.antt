@@ -11,7 +11,8 @@ use lib.Dec.{leb, ltb, eqb}
 use borrow.Author.Tests.{le-leb, lt-ltb, eq-eqb, leb-true, ltb-true, eqb-true}
 use Rattle.wire.specs.Bytes.{Bytes, digits}
 use Rattle.wire.specs.Layout.{Rule, Layout, stop, noArm, arm, number, plain, buffer, counted, lengthTo, allows}
-use Rattle.wire.specs.Reading.{Part, num, tag, span, Ans, found, refused, Parsed, parsed, list, read}
+use Rattle.wire.specs.Records.{Part, num, tag, span, Ans, found, refused, Parsed, parsed}
+use Rattle.wire.specs.Reading.{list, read}
 use Rattle.wire.specs.Grammar.{Token, bytes, Spells, Items, ends, holds, says, shows, sizes, counts, placed, shown, Stands}
 use Rattle.wire.specs.Writing.{cut, spelt, whole, moved, ahead, lay}
 use Rattle.wire.proofs.Digits.{length-digits}

@@ -7,7 +7,7 @@ use Rattle.wire.specs.declared.span.Span.{Span}
 use Rattle.wire.specs.declared.read.NumberRead.{NumberRead}
 use Rattle.wire.specs.declared.read.SpanRead.{SpanRead}
 use Rattle.wire.specs.declared.measure.Measure.{Measure}
-use Rattle.wire.specs.Reading.{Part, num, span, Ans, found, refused, Parsed, parsed}
+use Rattle.wire.specs.Records.{Part, num, span, Ans, found, refused, Parsed, parsed}
 
 -- how many bytes a number of that width has
 abbrev pub widthOf : Width → ℕ

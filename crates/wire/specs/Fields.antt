@@ -3,7 +3,7 @@ use Prim.Native.Nat.{ℕ, zero, suc}
 use mathlib.Core.List.{List, [], _∷_}
 use lib.ListN.{length}
 use Rattle.faults.specs.Faults.{noField}
-use Rattle.wire.specs.Reading.{Part, num, tag, span, Ans, found, refused}
+use Rattle.wire.specs.Records.{Part, num, tag, span, Ans, found, refused}
 use Rattle.wire.specs.Writing.{cut}
 
 -- the byte fields of a record in wire order

@@ -5,7 +5,7 @@ use mathlib.Core.Bool.{Bool, cond}
 use lib.ListN.{length, take, drop}
 use lib.Dec.{leb}
 use Rattle.faults.specs.Faults.{noRoom}
-use Rattle.wire.specs.Reading.{Ans, found, refused}
+use Rattle.wire.specs.Records.{Ans, found, refused}
 
 -- the bytes bs fit there
 abbrev pub fits : (at : ℕ) (bs old : List ℕ) → Bool

@@ -6,7 +6,7 @@ use mathlib.Core.List.{List, [], _∷_, _++_}
 use lib.ListN.{length, take, drop}
 use Rattle.wire.specs.Bytes.{Bytes, digits}
 use Rattle.wire.specs.Layout.{Rule, allows, Layout, stop, arm, number, plain, buffer, counted}
-use Rattle.wire.specs.Reading.{Part, num, tag, span}
+use Rattle.wire.specs.Records.{Part, num, tag, span}
 
 -- what a field shows: a number, the arm that is held, or bytes
 pub data Token : Type 0 where

@@ -5,7 +5,8 @@ use lib.ListN.{take, drop}
 use Rattle.faults.specs.Faults.{noField}
 use Rattle.wire.specs.Bytes.{be}
 use Rattle.wire.specs.Layout.{Layout}
-use Rattle.wire.specs.Reading.{Part, Ans, found, refused, next, Parsed, Reader, read}
+use Rattle.wire.specs.Records.{Part, Ans, found, refused, next, Parsed}
+use Rattle.wire.specs.Reading.{Reader, read}
 use Rattle.wire.specs.Writing.{whole}
 use Rattle.wire.specs.Fields.{pickField}
 

@@ -1,5 +1,6 @@
 pub mod Bytes
 pub mod Layout
+pub mod Records
 pub mod Reading
 pub mod Parts
 pub mod Unions

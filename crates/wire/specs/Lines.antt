@@ -4,7 +4,8 @@ use mathlib.Core.List.{List, [], _∷_, _++_}
 use lib.ListN.{take, drop}
 use Rattle.wire.specs.Bytes.{be}
 use Rattle.wire.specs.Layout.{Rule, free, listed, fixed, lengthTo, countTo, Layout, stop, noArm, arm, number, plain, buffer, counted}
-use Rattle.wire.specs.Reading.{Part, Ans, found, refused, Parsed, Reader, read}
+use Rattle.wire.specs.Records.{Part, Ans, found, refused, Parsed}
+use Rattle.wire.specs.Reading.{Reader, read}
 use Rattle.wire.specs.Parts.{onNumber, onArm, onSpan}
 
 -- what a line says: a code (a number that UnknownCode can refuse), another number, or bytes

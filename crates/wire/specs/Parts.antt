@@ -2,7 +2,7 @@
 -- Assumes nothing.
 use Prim.Native.Nat.{ℕ}
 use mathlib.Core.List.{List, [], _∷_}
-use Rattle.wire.specs.Reading.{Part, num, tag, span}
+use Rattle.wire.specs.Records.{Part, num, tag, span}
 
 module _ {ℓ} {B : Type ℓ} (other : B) where
   -- no part is left

@@ -4,35 +4,10 @@ use mathlib.Core.List.{List, [], _∷_}
 use mathlib.Core.Bool.{cond}
 use lib.ListN.{length, take, drop}
 use lib.Dec.{leb}
-use Rattle.faults.specs.declared.Refusal.{Refusal}
 use Rattle.faults.specs.Faults.{short, noSuchArm, trailing}
 use Rattle.wire.specs.Bytes.{be}
 use Rattle.wire.specs.Layout.{Rule, allows, breach, lengthTo, countTo, Layout, stop, noArm, arm, number, plain, buffer, counted}
-
--- what a record keeps of a field: a number, the arm that a union holds, or where bytes stand
-pub data Part : Type 0 where
-  num : ℕ → Part
-  tag : ℕ → Part
-  span : (start len : ℕ) → Part
-
--- an answer: a value, or a refusal
-pub data Ans (A : Type 0) : Type 0 where
-  found : A → Ans A
-  refused : Refusal → Ans A
-
--- a, and with its value k; the first refusal decides
-abbrev pub next : {A B : Type 0} → Ans A → (A → Ans B) → Ans B
-next (found a) k = k a
-next (refused f) k = refused f
-
--- the parts of a record in wire order, and the place where it ends
-pub record Parsed : Type 0 where
-  pub parts : List Part
-  pub stops : ℕ
-
--- a record was found, with these parts, and ends there
-abbrev pub parsed : List Part → ℕ → Ans Parsed
-parsed ps e = found (record { parts = ps; stops = e })
+use Rattle.wire.specs.Records.{Part, num, tag, span, Ans, found, refused, next, Parsed, parsed, left}
 
 -- the part p, and behind it those of a
 abbrev pub also : Part → Ans Parsed → Ans Parsed
@@ -42,10 +17,6 @@ also p a = next a (λ r. parsed (p ∷ r .parts) (r .stops))
 
 abbrev pub Reader : Type 0 → Type 0
 Reader A = (src : List ℕ) → (at : ℕ) → Ans A
-
--- how many bytes are left from a place on: none past the end
-abbrev pub left : List ℕ → ℕ → ℕ
-left src at = length src - at
 
 -- the n bytes that stand there
 unfoldable pub piece : ℕ → Reader (List ℕ)

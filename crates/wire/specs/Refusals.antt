@@ -8,7 +8,7 @@ use Rattle.faults.specs.declared.Refusal.{Refusal}
 use Rattle.faults.specs.Faults.{short, noSuchArm}
 use Rattle.wire.specs.Bytes.{digits}
 use Rattle.wire.specs.Layout.{Rule, allows, breach, lengthTo, countTo, Layout, noArm, arm, number, plain, buffer, counted}
-use Rattle.wire.specs.Reading.{left}
+use Rattle.wire.specs.Records.{left}
 use Rattle.wire.specs.Grammar.{Token, Spells, Items, Stands}
 
 -- the number n, which the rule allows, stands at the place `at` by w digits

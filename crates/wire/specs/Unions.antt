@@ -6,7 +6,7 @@ use lib.Dec.{eqb}
 use Rattle.wire.specs.declared.choice.Choice.{Choice}
 use Rattle.wire.specs.declared.choice.Choice.the-variants.{Nothing, The}
 use Rattle.wire.specs.Layout.{Layout, noArm, arm}
-use Rattle.wire.specs.Reading.{Part}
+use Rattle.wire.specs.Records.{Part}
 use Rattle.wire.specs.Parts.{onArm}
 
 -- a row of a union's table: a selector's code, the number of the arm that it chooses, and what that arm holds

@@ -8,7 +8,7 @@ use Rattle.faults.specs.declared.Refusal.{Refusal}
 use Rattle.faults.specs.Faults.{noSuchArm, mismatch, badSpan, tooLong, trailing}
 use Rattle.wire.specs.Bytes.{digits}
 use Rattle.wire.specs.Layout.{Rule, allows, breach, Layout, stop, noArm, arm, number, plain, buffer, counted}
-use Rattle.wire.specs.Reading.{Part, num, tag, span}
+use Rattle.wire.specs.Records.{Part, num, tag, span}
 use Rattle.wire.specs.Grammar.{Items}
 use Rattle.wire.specs.Refusals.{Refuses}
 use Rattle.wire.specs.Parts.{onEnd, onNumber, onArm, onSpan}

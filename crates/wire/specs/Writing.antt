@@ -9,7 +9,8 @@ use Rattle.faults.specs.declared.Refusal.{Refusal}
 use Rattle.faults.specs.Faults.{refusal, noSuchArm, mismatch, badSpan, trailing}
 use Rattle.wire.specs.Bytes.{digits}
 use Rattle.wire.specs.Layout.{Rule, allows, breach, lengthTo, Layout, stop, noArm, arm, number, plain, buffer, counted}
-use Rattle.wire.specs.Reading.{Part, Ans, found, refused, next, list, read}
+use Rattle.wire.specs.Records.{Part, Ans, found, refused, next}
+use Rattle.wire.specs.Reading.{list, read}
 use Rattle.wire.specs.Parts.{onEnd, onNumber, onArm, onSpan}
 
 -- the answer to parts of another shape, which no record of the code has

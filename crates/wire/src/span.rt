@@ -5,7 +5,7 @@ ghost use mathlib.Core.Path.{_≡_};
 ghost use Prim.Native.Nat.{_+_};
 ghost use lib.Dec.{leb};
 ghost use Rattle.wire.specs.Answers.{startOf, lenOf, spanPart, measureAnswer};
-ghost use Rattle.wire.specs.Reading.{span};
+ghost use Rattle.wire.specs.Records.{span};
 ghost use Rattle.wire.specs.Writing.{cut};
 ghost use Rattle.wire.specs.Fields.{partOf, sizeOf};
 

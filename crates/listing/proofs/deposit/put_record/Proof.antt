@@ -2,7 +2,7 @@
 use borrow.Author.Needs.{needs}
 use native.Mathlib.Omega.{arith}
 use mathlib.Core.Path.{sym, ap, _∙_}
-use Rattle.wire.specs.Reading.{refused}
+use Rattle.wire.specs.Records.{refused}
 use Rattle.wire.proofs.Stand.{bytes-of}
 use Rattle.listing.proofs.Deposits.{judged-unread, judged-refused, refusal-listed, read-as, record-listed}
 use Rattle.listing.proofs.deposit.put_record.Statement.{statement}

@@ -4,7 +4,7 @@ use native.Mathlib.Omega.{arith}
 use mathlib.Core.Path.{refl}
 use Rattle.wire.specs.Answers.{widthOf}
 use Rattle.wire.specs.Bytes.{digits}
-use Rattle.wire.specs.Reading.{found}
+use Rattle.wire.specs.Records.{found}
 use Rattle.steps.proofs.Leaves.{put-room, put-by, put-none}
 use Rattle.steps.proofs.number.put_digits.Tie as tie
 
