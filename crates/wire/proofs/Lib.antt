@@ -28,6 +28,7 @@ pub mod Wholes
 pub mod Walks
 pub mod Tests
 pub mod Cuts
+pub mod Places
 pub mod Widths
 pub mod Numbers
 pub mod Filling
