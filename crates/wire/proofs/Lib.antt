@@ -8,6 +8,7 @@ pub mod Whole
 pub mod Stable
 pub mod Rules
 pub mod Refused
+pub mod WholeExactly
 pub mod Written
 pub mod Unwritten
 pub mod Then
