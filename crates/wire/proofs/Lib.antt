@@ -30,6 +30,7 @@ pub mod Walks
 pub mod Tests
 pub mod Cuts
 pub mod Places
+pub mod FieldsSpelled
 pub mod Widths
 pub mod Numbers
 pub mod Filling
