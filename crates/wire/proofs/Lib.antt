@@ -31,6 +31,8 @@ pub mod Tests
 pub mod Cuts
 pub mod Places
 pub mod FieldsSpelled
+pub mod ItemsSpelled
+pub mod ListsKept
 pub mod Widths
 pub mod Numbers
 pub mod Filling
