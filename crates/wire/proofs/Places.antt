@@ -7,14 +7,17 @@ use mathlib.Core.List.{List, [], _∷_, _++_}
 use lib.ListN.{length, take, drop}
 use Rattle.wire.specs.Bytes.{Bytes, digits}
 use Rattle.wire.specs.Layout.{Layout}
-use Rattle.wire.specs.Records.{Part, num, tag, span, parsed}
+use Rattle.wire.specs.Records.{Part, num, tag, span, found, parsed}
 use Rattle.wire.specs.Within.{Within, unplaced}
 use Rattle.wire.specs.Reading.{read}
 use Rattle.wire.specs.Grammar.{Token, value, held, bytes, Spells, ends, holds, says, shows, sizes, counts, Stands, Starts, shown, placed}
+use Rattle.wire.specs.Writing.{lay}
 use Rattle.wire.specs.Fields.{bytesShown}
 use Rattle.wire.proofs.Digits.{length-digits}
 use Rattle.wire.proofs.Stand.{stands-left, stands-end, stands-front, stands-back}
+use Rattle.wire.proofs.Complete.{read-complete, placed-shows}
 use Rattle.wire.proofs.Prefix.{accepted-is-legal}
+use Rattle.wire.proofs.Written.{lay-sound}
 use Rattle.wire.proofs.Cuts.{cut-length}
 
 -- ---- what is shown, and places
@@ -81,9 +84,21 @@ legal-record-lies-within (counts {xs = xs} {cs = cs} n h m c is e d) i s =
 pub record-with-a-byte-starts-inside : {l : Layout} {src : List ℕ} {at e : ℕ} → Starts l src at e → at < e → at ≤ length src
 record-with-a-byte-starts-inside d h = omega (arith, d .ends, stands-left (d .stands))
 
--- so do the parts of a record that was read. (Past the end a record without a byte is read, if the layout has one: its spans are empty,
--- and lie where it was looked for)
+-- the parts of a record that was read lie in the source, if it was looked for there and not past the end. (Past the end a record without
+-- a byte is read, where the layout has one: its spans are empty, and start where it was looked for)
 pub read-record-lies-within : (l : Layout) (src : List ℕ) (at : ℕ) {ps : List Part} {e : ℕ} → Bytes src → at ≤ length src → read l src at ≡ parsed ps e → Within src ps
 read-record-lies-within l src at b i p =
     let (d, same, showing) = accepted-is-legal l src at b p in
     rw same (legal-record-lies-within (d .spells) i (d .stands))
+
+-- ---- a record that was written and is read back
+
+-- what the writer lays out of parts that lie in their source is read back, wherever it stands, with parts that show the same and are
+-- equal but for where their spans start
+pub written-record-reads-back-but-for-places : (l : Layout) (ps : List Part) (src : List ℕ) (at : ℕ) {bs : List ℕ} → Bytes src → Within src ps → lay l ps src at ≡ found bs
+    → (input : List ℕ) (start : ℕ) → start ≤ length input → Stands input start bs
+    → (qs : List Part) × (read l input start ≡ parsed qs (start + length bs)) × (shown input qs ≡ shown src ps) × (unplaced qs ≡ unplaced ps)
+written-record-reads-back-but-for-places l ps src at b within p input start inside s =
+    let d = lay-sound l ps src at _ b p in
+    let same = placed-shows d s in
+    (placed d start, read-complete d s, same, shown-is-equal-but-for-places input src (placed d start) ps (legal-record-lies-within d inside s) within same)
