@@ -9,15 +9,15 @@ use lib.Dec.{leb, eqb}
 use borrow.Author.Tests.{le-leb, leb-true, eq-eqb}
 use Rattle.wire.specs.Layout.{Rule, Layout, stop, noArm, arm, number, plain, buffer, counted, lengthTo}
 use Rattle.wire.specs.Records.{Part, num, tag, span, Ans, found}
+use Rattle.wire.specs.Within.{Within}
 use Rattle.wire.specs.Reading.{list, read}
 use Rattle.wire.specs.Grammar.{Token, value, held, bytes, Spells, ends, holds, says, shows, sizes, counts, shown}
 use Rattle.wire.specs.Writing.{cut, spelt, whole, moved, ahead, lay}
 use Rattle.wire.proofs.Digits.{length-digits}
-use Rattle.wire.proofs.Steps.{found-refused, found-same, next-found, when-found}
-use Rattle.wire.proofs.Cuts.{cut-length}
+use Rattle.wire.proofs.Steps.{clash, found-refused, found-same, next-found, when-found}
+use Rattle.wire.proofs.Cuts.{cut-length, cut-there}
 use Rattle.wire.proofs.Written.{spelt-of, whole-of, spelt-found, cut-found, moved-found}
 use Rattle.copies.specs.Sizes.{sizesOf}
-use Rattle.copies.specs.Within.{Within}
 
 -- ---- what is written: its size, and where its bytes came from
 
@@ -119,14 +119,6 @@ lay-laid (counted m i l) = counted-laid m i l (lay-laid l)
 
 -- ---- what may be written
 
-cut-all : (src : List ℕ) (start len at : ℕ) → start + len ≤ length src → cut src start len at ≡ found (take len (drop start src))
-unfolding cut
-cut-all src start len at h = rw (le-leb (start + len) (length src) h)
-
--- what follows if two different constructors are said to be the same
-clash : _≡_ {A = ℕ} 0 1 → ⊥
-clash z = omega arith
-
 -- parts that show nothing are none
 shows-none : (src : List ℕ) (ps : List Part) → shown src ps ≡ [] → ps ≡ []
 shows-none src [] e = refl
@@ -156,7 +148,7 @@ module _ (src : List ℕ) {ts : List Token} where
   shows-bytes (span start len ∷ ps) {xs} e h =
       let same : take len (drop start src) ≡ xs = cc in
       let size : len ≡ length xs = sym (cut-length src start len 0 (h .0)) ∙ ap length same in
-      (start, ps, ap (λ n. span start n ∷ ps) size, cc, h .1, λ at. rw (← size) (cut-all src start len at (h .0) ∙ ap found same))
+      (start, ps, ap (λ n. span start n ∷ ps) size, cc, h .1, λ at. rw (← size) (cut-there src start len at (h .0) ∙ ap found same))
 
 -- parts whose spans lie in the source, and that show a legal record, are written as that record
 pub legal-laid : {l : Layout} {ts : List Token} {bs : List ℕ} → Spells l ts bs → (ps : List Part) (src : List ℕ) (at : ℕ) → shown src ps ≡ ts → Within src ps

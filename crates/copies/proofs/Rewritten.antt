@@ -13,6 +13,7 @@ use Rattle.faults.specs.declared.Refusal.{Refusal}
 use Rattle.faults.specs.Faults.{noRoom}
 use Rattle.wire.specs.Bytes.{Bytes}
 use Rattle.wire.specs.Records.{Part, found, refused, parsed}
+use Rattle.wire.specs.Within.{Within}
 use Rattle.wire.specs.Reading.{read}
 use Rattle.wire.specs.Grammar.{Spells, shown}
 use Rattle.wire.specs.Writing.{lay}
@@ -23,7 +24,6 @@ use Rattle.wire.proofs.Written.{read-then-lay, lay-sound, lay-then-read}
 use Rattle.wire.proofs.Unwritten.{unwritten-lay, lay-unwritten, shaped-of-read}
 use Rattle.format.specs.Kinds.{layoutOf}
 use Rattle.copies.specs.Sizes.{sizesOf}
-use Rattle.copies.specs.Within.{Within}
 use Rattle.copies.proofs.Begun.{kind-has-bytes, read-lies-in}
 use Rattle.copies.proofs.Laid.{lay-laid, legal-laid}
 use Rattle.copies.proofs.Lent.{room-is-used, no-room-is-refused, size-is-of-bytes, refusal-or-no-room, refusal-changes-nothing, length-is-kept, rest-is-kept}

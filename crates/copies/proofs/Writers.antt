@@ -11,6 +11,7 @@ use Rattle.wire.specs.Answers.{measureAnswer}
 use Rattle.wire.specs.Bytes.{Bytes}
 use Rattle.wire.specs.Layout.{Layout}
 use Rattle.wire.specs.Records.{Part, found, refused, parsed}
+use Rattle.wire.specs.Within.{Within}
 use Rattle.wire.specs.Reading.{read}
 use Rattle.wire.specs.Grammar.{Spells, shown}
 use Rattle.wire.specs.Writing.{lay}
@@ -20,7 +21,6 @@ use Rattle.wire.specs.Unwritten.{Unwritten}
 use Rattle.wire.proofs.Answers.{measure-answer-once}
 use Rattle.format.specs.Kinds.{layoutOf}
 use Rattle.copies.specs.Sizes.{sizesOf}
-use Rattle.copies.specs.Within.{Within}
 use Rattle.copies.specs.Walked.{recordBytes, Copies}
 use Rattle.copies.proofs.Lent.{refusal-changes-nothing, size-is-of-bytes}
 use Rattle.copies.proofs.Rewritten as rewritten

@@ -1,3 +1,2 @@
 pub mod Sizes
-pub mod Within
 pub mod Walked

@@ -1,13 +1,12 @@
 -- The promises of reading, for the code: what follows from the equation with `read` that every reader ensures. Its answer, as the
 -- `.. Answer` of its type means it, is `a`; `told` is that equation, for the layout of the kind's number. Assumes nothing.
 use Prim.Native.Nat.{ℕ, _+_, _≤_, _<_}
-use native.Mathlib.Omega.{arith}
-use borrow.Author.Tests.{lt-leb, eq-eqb}
+use borrow.Author.Tests.{eq-eqb}
 use mathlib.Core.Path.{_≡_, refl, sym, ap, _∙_}
 use mathlib.Core.Logic.{_⊎_, inl, inr}
 use mathlib.Core.Bool.{true, false}
-use mathlib.Core.List.{List, [], _∷_, _++_, append-nil}
-use lib.ListN.{length, drop, length-drop}
+use mathlib.Core.List.{List, _∷_, _++_}
+use lib.ListN.{length, drop}
 use lib.Seq.{drop-at, drop-drop}
 use Rattle.faults.specs.declared.Fault.the-variants.{Short}
 use Rattle.faults.specs.declared.Refusal.{Refusal}
@@ -20,18 +19,17 @@ use Rattle.wire.specs.Layout.{Layout, noArm}
 use Rattle.wire.specs.Records.{Part, Ans, refused, Parsed, parsed, left}
 use Rattle.wire.specs.Reading.{read, readWhole, endOf}
 use Rattle.wire.specs.Grammar.{Token, Spells, Stands, Starts, placed, shown}
-use Rattle.wire.specs.Refusals.{Refuses}
+use Rattle.wire.specs.Refusals.{Refuses, RefusesWhole, first-fault, left-over}
 use Rattle.wire.specs.Unions.{isArm}
 use Rattle.wire.specs.Editions.{Later, Newer, Foreign}
-use Rattle.wire.proofs.Steps.{parsed-same}
 use Rattle.wire.proofs.Complete.{read-complete, placed-shows}
-use Rattle.wire.proofs.Prefix.{starts-read}
+use Rattle.wire.proofs.Prefix as prefix
 use Rattle.wire.proofs.Stable.{IsShort}
 use Rattle.wire.proofs.Later.{Verdict, later}
 use Rattle.wire.proofs.Refused.{refuses-read}
 use Rattle.wire.proofs.Answers.{measure-answer-once}
-use Rattle.wire.proofs.Whole.{whole-is-read, read-is-whole, read-is-trailing}
-use Rattle.wire.proofs.Wholes.{whole-refused}
+use Rattle.wire.proofs.Whole.{whole-is-read}
+use Rattle.wire.proofs.WholeExactly as whole
 use Rattle.wire.proofs.Unions.{chosen-is}
 use Rattle.format.specs.Kinds.{tpmtHa, tpmtSymDef, tpmtKdfScheme, tpmtKeyedhashScheme, tpmtSigScheme, tpmtAsymScheme, tpmtPublicParms, tpmtSignature, tpmtPublic, tpmtSensitive, tpmsAttest, tpmlPcrSelection, kinds, isKind, layoutOf, readKind}
 use Rattle.format.proofs.Numbered.{no-kind}
@@ -59,11 +57,7 @@ module _ (k : ℕ) (src : List ℕ) (at : ℕ) {a : Ans Parsed} (told : a ≡ re
   -- an accepted record, its fields and its end are those of a legal record that starts there
   pub accepted-is-legal : {ps : List Part} {e : ℕ} → Bytes src → a ≡ parsed ps e
       → (d : Starts (layoutOf k) src at e) × (ps ≡ placed (d .spells) at) × (shown src ps ≡ d .tokens)
-  accepted-is-legal {ps} {e} b found =
-      let there = sym told ∙ found in
-      let d = promises.read-is-legal k src at (record { parts = ps; stops = e }) b there in
-      let same = parsed-same (sym there ∙ starts-read d) .0 in
-      (d, same, ap (λ qs. shown src qs) same ∙ placed-shows (d .spells) (d .stands))
+  accepted-is-legal b found = prefix.accepted-is-legal (layoutOf k) src at b (sym told ∙ found)
 
   -- its tail is all that stands behind that record
   pub tail-is-the-rest : {ps : List Part} {e : ℕ} {tail : List ℕ} → Bytes src → a ≡ parsed ps e → tail ≡ drop e src
@@ -124,19 +118,27 @@ module _ (k : ℕ) (src : List ℕ) (at : ℕ) {a : Ans Parsed} (told : a ≡ re
   pub whole-has-no-tail : {ps : List Part} {e : ℕ} → a ≡ parsed ps e → (read (layoutOf k) src at ≡ parsed ps e) × (length src ≤ e)
   whole-has-no-tail found = whole-is-read (layoutOf k) src at (sym told ∙ found)
 
+  -- what is accepted whole is all that stands there: a legal record, with its fields, which ends where the input ends (past the end, where
+  -- it was looked for)
+  pub whole-accepts-only-all : {ps : List Part} {e : ℕ} → Bytes src → a ≡ parsed ps e
+      → (ts : List Token) × (d : Spells (layoutOf k) ts (drop at src)) × (ps ≡ placed d at) × (shown src ps ≡ ts) × (e ≡ at + left src at)
+  whole-accepts-only-all b found = whole.whole-accepts-only-all (layoutOf k) src at b (sym told ∙ found)
+
   -- a legal record that is all that stands there is accepted
   pub legal-is-accepted-whole : {ts : List Token} {bs : List ℕ} (d : Spells (layoutOf k) ts bs) → drop at src ≡ bs → a ≡ parsed (placed d at) (at + length bs)
-  legal-is-accepted-whole {bs = bs} d all =
-      let stands : Stands src at bs = record { rest = []; begins = all ∙ sym (append-nil bs) } in
-      told ∙ read-is-whole (layoutOf k) src at (read-complete d stands) (omega (arith, ap length all, length-drop at src))
+  legal-is-accepted-whole d all = told ∙ whole.legal-is-accepted-whole (layoutOf k) src at d all
 
   -- with bytes behind it, it is Trailing: where it ends, and how many are left
   pub tail-is-trailing : {e : ℕ} → Starts (layoutOf k) src at e → e < length src → a ≡ refused (trailing e (left src e))
-  tail-is-trailing {e} d more = told ∙ read-is-trailing (layoutOf k) src at (starts-read d) (lt-leb (length src) e more)
+  tail-is-trailing {e} d more = told ∙ whole.why-is-whole-refusal (layoutOf k) src at (left-over e d more refl)
 
   -- where none starts, the first fault in wire order is answered
   pub whole-first-is-refusal : {f : Refusal} → Refuses src (layoutOf k) at f → a ≡ refused f
-  whole-first-is-refusal faulty = told ∙ sym (whole-refused (λ x. x) (refused _) (refused _) (layoutOf k) src at _ refl (sym (refuses-read faulty)) refl)
+  whole-first-is-refusal first = told ∙ whole.why-is-whole-refusal (layoutOf k) src at (first-fault first)
+
+  -- and what is refused is refused for one of these two
+  pub whole-refusal-says-why : {f : Refusal} → Bytes src → a ≡ refused f → RefusesWhole src (layoutOf k) at f
+  whole-refusal-says-why {f} b fails = whole.whole-refusal-says-why (layoutOf k) src at f b (sym told ∙ fails)
 
 -- ---- where a record ends, by its kind's number
 

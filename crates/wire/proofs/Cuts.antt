@@ -7,7 +7,7 @@ use mathlib.Core.List.{List, []}
 use lib.ListN.{length, take, drop, length-drop}
 use lib.Seq.{length-take-le}
 use lib.Dec.{leb}
-use borrow.Author.Tests.{leb-true}
+use borrow.Author.Tests.{le-leb, leb-true}
 use Rattle.faults.specs.declared.Refusal.{Refusal}
 use Rattle.faults.specs.Faults.{badSpan}
 use Rattle.wire.specs.Records.{Ans, found, refused}
@@ -20,6 +20,10 @@ module _ (src : List ℕ) (start len at : ℕ) where
   cut-length h = length-take-le len (drop start src) (omega (arith, length-drop start src))
 
   -- in the source
+  pub cut-there : start + len ≤ length src → cut src start len at ≡ found (take len (drop start src))
+  unfolding cut
+  cut-there h = rw (le-leb (start + len) (length src) h)
+
   pub size-there : leb (start + len) (length src) ≡ true → found len ≡ sizeOf (cut src start len at)
   unfolding cut
   size-there t = rw (t, cut-length (leb-true (start + len) (length src) t))

@@ -8,6 +8,7 @@ pub mod Whole
 pub mod Stable
 pub mod Rules
 pub mod Refused
+pub mod WholeExactly
 pub mod Written
 pub mod Unwritten
 pub mod Then
@@ -28,6 +29,10 @@ pub mod Wholes
 pub mod Walks
 pub mod Tests
 pub mod Cuts
+pub mod Places
+pub mod FieldsSpelled
+pub mod ItemsSpelled
+pub mod ListsKept
 pub mod Widths
 pub mod Numbers
 pub mod Filling

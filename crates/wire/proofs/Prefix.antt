@@ -8,7 +8,7 @@ use lib.ListN.{length, length-append}
 use Rattle.faults.specs.declared.Refusal.{Refusal}
 use Rattle.wire.specs.Bytes.{Bytes, digits}
 use Rattle.wire.specs.Layout.{Layout}
-use Rattle.wire.specs.Records.{Ans, found, refused, Parsed, parsed}
+use Rattle.wire.specs.Records.{Part, Ans, found, refused, Parsed, parsed}
 use Rattle.wire.specs.Reading.{read}
 use Rattle.wire.specs.Grammar.{Token, Spells, ends, holds, says, shows, sizes, counts, Stands, Starts, placed, shown}
 use Rattle.wire.proofs.Stand.{stands-start}
@@ -19,6 +19,14 @@ use Rattle.wire.proofs.Sound.{read-sound}
 -- where a spelled record stands, the reader finds it, to its end
 pub starts-read : {l : Layout} {at e : ℕ} {src : List ℕ} (d : Starts l src at e) → read l src at ≡ parsed (placed (d .spells) at) e
 starts-read {l} {at} d = rw (d .ends) (read-complete (d .spells) (d .stands))
+
+-- an accepted record, its parts and its end are those of a legal record that starts there
+pub accepted-is-legal : (l : Layout) (src : List ℕ) (at : ℕ) {ps : List Part} {e : ℕ} → Bytes src → read l src at ≡ parsed ps e
+    → (d : Starts l src at e) × (ps ≡ placed (d .spells) at) × (shown src ps ≡ d .tokens)
+accepted-is-legal l src at {ps} {e} b p =
+    let d = read-sound l src at (record { parts = ps; stops = e }) b p in
+    let same = parsed-same (sym p ∙ starts-read d) .0 in
+    (d, same, ap (λ qs. shown src qs) same ∙ placed-shows (d .spells) (d .stands))
 
 -- so it refuses nothing that is spelled
 pub refused-none : {l : Layout} {at e : ℕ} {src : List ℕ} {f : Refusal} → read l src at ≡ refused f → Starts l src at e → ⊥

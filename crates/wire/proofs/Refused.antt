@@ -63,7 +63,7 @@ mutual
 
 -- ---- what is refused is to be refused so
 
-next-refused : {A B : Type 0} (a : Ans A) (k : A → Ans B) {f : Refusal} → next a k ≡ refused f → (a ≡ refused f) ⊎ ((x : A) × (a ≡ found x) × (k x ≡ refused f))
+pub next-refused : {A B : Type 0} (a : Ans A) (k : A → Ans B) {f : Refusal} → next a k ≡ refused f → (a ≡ refused f) ⊎ ((x : A) × (a ≡ found x) × (k x ≡ refused f))
 next-refused (found x) k p = inr (x, refl, p)
 next-refused (refused g) k p = inl (ap refused (refused-same p))
 

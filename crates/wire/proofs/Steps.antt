@@ -18,8 +18,12 @@ use Rattle.wire.proofs.Stand.{stands-of, stands-same, stands-left, stan
 
 -- ---- answers
 
+-- what follows if two different constructors are said to be the same
+pub clash : _≡_ {A = ℕ} 0 1 → ⊥
+clash z = omega arith
+
 pub found-refused : {A : Type 0} {x : A} {f : Refusal} → refused f ≡ found x → ⊥
-found-refused p = let z : _≡_ {A = ℕ} 0 1 = cc in omega arith
+found-refused p = clash (cc)
 
 pub found-same : {A : Type 0} {x y : A} → found x ≡ found y → x ≡ y
 found-same p = cc

@@ -1,6 +1,7 @@
 pub mod Bytes
 pub mod Layout
 pub mod Records
+pub mod Within
 pub mod Reading
 pub mod Parts
 pub mod Unions

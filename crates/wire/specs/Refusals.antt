@@ -5,11 +5,11 @@ use mathlib.Core.Bool.{true, false}
 use mathlib.Core.List.{List}
 use lib.ListN.{length}
 use Rattle.faults.specs.declared.Refusal.{Refusal}
-use Rattle.faults.specs.Faults.{short, noSuchArm}
+use Rattle.faults.specs.Faults.{short, noSuchArm, trailing}
 use Rattle.wire.specs.Bytes.{digits}
 use Rattle.wire.specs.Layout.{Rule, allows, breach, lengthTo, countTo, Layout, noArm, arm, number, plain, buffer, counted}
 use Rattle.wire.specs.Records.{left}
-use Rattle.wire.specs.Grammar.{Token, Spells, Items, Stands}
+use Rattle.wire.specs.Grammar.{Token, Spells, Items, Stands, Starts}
 
 -- the number n, which the rule allows, stands at the place `at` by w digits
 pub record Field (src : List ℕ) (w : ℕ) (r : Rule) (at n : ℕ) : Type 0 where
@@ -67,3 +67,9 @@ mutual
     past-item : {i : Layout} {n at : ℕ} {ts : List Token} {xs : List ℕ} {f : Refusal}
         → Stands src at xs → Spells i ts xs → RefusesItems src i n (at + length xs) f
         → RefusesItems src i (suc n) at f
+
+-- RefusesWhole src l at f: why what stands in src from `at` on is not a record of l and nothing more: its first fault, or the bytes that
+-- are left where a legal record ends
+pub data RefusesWhole (src : List ℕ) (l : Layout) (at : ℕ) (f : Refusal) : Type 0 where
+  first-fault : Refuses src l at f → RefusesWhole src l at f
+  left-over : (e : ℕ) → Starts l src at e → e < length src → f ≡ trailing e (left src e) → RefusesWhole src l at f
