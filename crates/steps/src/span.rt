@@ -75,7 +75,7 @@ fn judge_buffer(limit: u16, span: Span, src: &[u8], at: usize) -> Measure
             }
             Measure::No(Refusal::too_long(at, len as u64))
         }
-        Measure::No(f) => Measure::No(f),
+        Measure::No(out) => Measure::No(out),
     }
 }
 

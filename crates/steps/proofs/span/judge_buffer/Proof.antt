@@ -12,4 +12,4 @@ judge-buffer-spec = tie.close (tie.spec
     (λ c. (buffer-good _ _ _ (told measureAnswer (c .before .before .len .given .1) (c .before .before .before .before .measure .ensures)) (omega arith) (omega arith), omega arith))
     (search needs) (search needs)
     (λ c. (rw (c .too-long .ensures) (buffer-long _ _ _ (told measureAnswer (c .before .before .before .len .given .1) (c .before .before .before .before .before .measure .ensures)) (omega arith)), tt))
-    (λ c. (buffer-out _ _ _ _ (told measureAnswer (c .before .f .given .1) (c .before .before .before .measure .ensures)), tt)))
+    (λ c. (search buffer-out, tt)))
