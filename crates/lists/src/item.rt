@@ -66,7 +66,7 @@ fn item_in(which: ListOf, list: Span, s: &[u8], index: usize) -> Place
                 Uint32Read::No(f) => Place::No(f),
             }
         }
-        Measure::No(f) => Place::No(f),
+        Measure::No(bad) => Place::No(bad),
     }
 }
 

@@ -57,7 +57,7 @@ impl TpmtSensitive {
                 end = e;
                 v
             }
-            SpanRead::No(f) => return TpmtSensitiveRead::No(f),
+            SpanRead::No(first) => return TpmtSensitiveRead::No(first),
         };
         let seed_value = match buffer(s, end, Width::Two, limits::MAX_DIGEST_SIZE) {
             SpanRead::Found(v, e) => {

@@ -8,7 +8,8 @@ use borrow.Author.Tests.{le-leb, lt-leb, lt-ltb, eq-eqb, ne-eqb}
 use Rattle.faults.specs.declared.Refusal.{Refusal}
 use Rattle.faults.specs.Faults.{mismatch, tooLong}
 use Rattle.wire.specs.declared.span.Span.{Span}
-use Rattle.wire.specs.Answers.{startOf, lenOf}
+use Rattle.wire.specs.declared.measure.Measure.{Measure}
+use Rattle.wire.specs.Answers.{startOf, lenOf, measureAnswer}
 use Rattle.wire.specs.Bytes.{digits}
 use Rattle.wire.specs.Records.{found, refused}
 use Rattle.wire.specs.Writing.{cut, spelt}
@@ -16,6 +17,7 @@ use Rattle.wire.specs.Fields.{partOf, sizeOf}
 use Rattle.wire.proofs.Digits.{length-digits}
 use Rattle.wire.proofs.Steps.{found-same}
 use Rattle.wire.proofs.Cuts.{sized-part, unsized}
+use Rattle.wire.proofs.Rest.{told}
 use Rattle.wire.proofs.Written.{cut-found}
 use Rattle.steps.specs.Steps.{Plain, Buffer, spellStep}
 use Rattle.steps.specs.Walks.{after}
@@ -60,6 +62,6 @@ module _ (s : Span) (src : List ℕ) (at : ℕ) where
       let same : n ≡ lenOf s = sized-length src (startOf s) (lenOf s) at p .0 in
       rw (sized-part src (startOf s) (lenOf s) at p, lt-leb (lenOf s) m (omega arith)) (ap (λ k. refused (tooLong at k)) same)
 
-  pub buffer-out : (m : ℕ) {f : Refusal} → refused f ≡ sizeOf (cut src (startOf s) (lenOf s) at) → refused f ≡ after at (spellStep (Buffer m s) src at)
+  pub buffer-out : (m : ℕ) {x : Measure} {f : Refusal} → x ≡ Measure.No f → measureAnswer x ≡ sizeOf (cut src (startOf s) (lenOf s) at) → refused f ≡ after at (spellStep (Buffer m s) src at)
   unfolding spellStep
-  buffer-out m p = rw (unsized src (startOf s) (lenOf s) at p)
+  buffer-out m e p = rw (unsized src (startOf s) (lenOf s) at (told measureAnswer e p))

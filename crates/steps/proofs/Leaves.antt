@@ -213,6 +213,10 @@ put-buffer w m t n src old b mid z r last e size p q is =
 
 -- ---- where an arm is due
 
+-- a walk that is refused by f is refused by what f is
+pub refused-so : {f g : Refusal} {r : Walk} → f ≡ g → r ≡ refusing f → r ≡ refusing g
+refused-so why is = is ∙ ap refusing why
+
 module _ (v : ℕ) (c : Choice) (b : Bool) (w : Walk) where
   due-by : (r : Walk) → w .mode ≡ 0 → r ≡ judgeDue v c b w → Dues v c b w r
   unfolding judgeStep
@@ -224,8 +228,8 @@ module _ (v : ℕ) (c : Choice) (b : Bool) (w : Walk) where
   pub due-other : {t : ℕ} {f : Refusal} {r : Walk} → w .mode ≡ 0 → c ≡ Choice.The t → b ≡ false → f ≡ mismatch (w .at) v → r ≡ refusing f → Dues v c b w r
   due-other {r = r} e p q why is = due-by r e (rw (p, q) (is ∙ ap refusing why))
 
-  pub due-missing : {f : Refusal} {r : Walk} → w .mode ≡ 0 → c ≡ Choice.Nothing → f ≡ noSuchArm (w .at) v → r ≡ refusing f → Dues v c b w r
-  due-missing {r = r} e p why is = due-by r e (rw p (is ∙ ap refusing why))
+  pub due-missing : {r : Walk} → w .mode ≡ 0 → c ≡ Choice.Nothing → r ≡ refusing (noSuchArm (w .at) v) → Dues v c b w r
+  due-missing {r} e p is = due-by r e (rw p is)
 
   pub due-passed : (w .mode ≡ 0 → ⊥) → Dues v c b w w
   unfolding putStep seekStep lineStep

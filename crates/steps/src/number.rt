@@ -225,19 +225,17 @@ impl Walk {
     pub fn due(self, selector: u16, chosen: Choice, held: bool) -> Walk
         ensures { λ r. ⌜ Dues selector chosen held self r ⌝ }
     {
-        if self.mode == JUDGE {
-            match chosen {
-                Choice::The(_) => {
-                    if held {
-                        return self;
-                    }
-                    return refusing(Refusal::mismatch(self.at, selector as u64));
-                }
-                Choice::Nothing => {
-                    return refusing(Refusal::no_arm(self.at, selector as u64));
-                }
-            }
+        if self.mode != JUDGE {
+            return self;
         }
-        self
+        match chosen {
+            Choice::The(_) => {
+                if held {
+                    return self;
+                }
+                refusing(Refusal::mismatch(self.at, selector as u64))
+            }
+            Choice::Nothing => refusing(Refusal::no_arm(self.at, selector as u64)),
+        }
     }
 }
