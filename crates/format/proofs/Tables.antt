@@ -9,8 +9,13 @@ use Rattle.wire.specs.Layout.{Layout, stop, plain}
 use Rattle.wire.specs.Unions.{Row}
 use Rattle.format.specs.Kinds.{empty, digestOf, tpmsSchemeHash, tpmuHaTable, tpmuAsymSchemeTable, tpmuSigSchemeTable, tpmuKeyedhashSchemeTable, tpmuKdfSchemeTable, tpmuSymKeyBitsTable, tpmuSymModeTable, tpmuPublicParmsTable, tpmuPublicIdTable, tpmuSensitiveCompositeTable, tpmuSignatureTable, tpmuAttestTable, tpmuHaArm, tpmuHaBody, tpmuSigSchemeArm, tpmuSigSchemeBody, tpmuSymKeyBitsArm, tpmuSymModeArm, tpmuPublicParmsArm, tpmuPublicIdArm, tpmuAttestArm}
 use Rattle.codes.specs.Codes.{member, attestations, isAttestation}
-use Rattle.codes.proofs.Digests.{Agrees}
+use Rattle.codes.proofs.Digests.{Agrees, digests-agree}
 use Rattle.codes.proofs.Choices.{chosen-has, chosen-listed, none-listed}
+
+-- a proof for each row of a table, one behind the other
+infixr 20 _&_
+abbrev pub _&_ : {A B : Type 0} → A → B → A × B
+a & b = (a, b)
 
 -- in each of some tables
 abbrev pub AllAgree : List (List Row) → Type 0
@@ -35,7 +40,7 @@ tables =
     ∷ []
 
 pub tables-agree : AllAgree tables
-tables-agree = (refl, (refl, (refl, (refl, (refl, (refl, (refl, (refl, (refl, (refl, (refl, (refl, tt))))))))))))
+tables-agree = digests-agree & refl & refl & refl & refl & refl & refl & refl & refl & refl & refl & refl & tt
 
 -- key bits and mode are chosen alike, and so are parameters and unique
 pub mode-arm : (v : ℕ) → tpmuSymModeArm v ≡ tpmuSymKeyBitsArm v
