@@ -225,7 +225,7 @@ attest-most =
 
 ha-reaches : Reaches tpmtHa 66
 unfolding tpmtHa isAlgorithm algorithms tpmuHa tpmuHaArm
-ha-reaches = number-reaches 2 alg 0x0D (omega arith) refl (arm-reaches 0x0D 65 (plain-reaches 64 stop-reaches))
+ha-reaches = number-reaches 2 alg 0x0D (omega arith) refl (arm-reaches 0x0D 320 (plain-reaches 64 stop-reaches))
 
 code-reaches : Reaches (one 2 alg) 2
 unfolding isAlgorithm algorithms

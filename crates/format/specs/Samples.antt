@@ -6,7 +6,7 @@ use lib.ListN.{length, drop}
 use Rattle.faults.specs.Faults.{short, unknownCode, noSuchArm, tooLong, tooManyItems}
 use Rattle.wire.specs.Records.{Part, num, tag, span, Ans, found, refused, next}
 use Rattle.codes.specs.Codes.{null, aes, rsaes, ecc, sha1}
-use Rattle.format.specs.Kinds.{empty, digestOf, readKind}
+use Rattle.format.specs.Kinds.{digestOf, readKind}
 
 -- what was read of some bytes: the record's parts, how many bytes it consumed, and its tail
 pub record Consumed : Type 0 where
@@ -50,7 +50,7 @@ AllHold (s ∷ ss) = Holds s × AllHold ss
 unfoldable pub samples : List Sample
 samples =
     sample 1 [] (refused (short 0 2))
-    ∷ sample 1 (0x00 ∷ 0x10 ∷ []) (consumed (num null ∷ tag empty ∷ []) 2 [])
+    ∷ sample 1 (0x00 ∷ 0x10 ∷ []) (consumed (num null ∷ tag null ∷ []) 2 [])
     ∷ sampleWith 1 (0x00 ∷ 0x04 ∷ []) 20 (consumed (num sha1 ∷ tag (digestOf 20) ∷ span 2 20 ∷ []) 22 [])
     ∷ sampleWith 1 (0x00 ∷ 0x04 ∷ []) 19 (refused (short 2 20))
     ∷ sample 1 (0x00 ∷ 0x02 ∷ []) (refused (unknownCode 0 2))
@@ -58,13 +58,13 @@ samples =
     ∷ sample 2 (0x00 ∷ 0x10 ∷ 0x00 ∷ 0x80 ∷ []) (consumed (num null ∷ tag null ∷ tag null ∷ []) 2 (0x00 ∷ 0x80 ∷ []))
     ∷ sample 2 (0x00 ∷ 0x06 ∷ 0x00 ∷ 0x80 ∷ 0x00 ∷ 0x43 ∷ []) (consumed (num aes ∷ tag aes ∷ num 0x80 ∷ tag aes ∷ num 0x43 ∷ []) 6 [])
     ∷ sample 2 (0x00 ∷ 0x06 ∷ 0x00 ∷ 0x80 ∷ []) (refused (short 4 2))
-    ∷ sample 6 (0x00 ∷ 0x15 ∷ []) (consumed (num rsaes ∷ tag empty ∷ []) 2 [])
+    ∷ sample 6 (0x00 ∷ 0x15 ∷ []) (consumed (num rsaes ∷ tag null ∷ []) 2 [])
     ∷ sample 6 (0x00 ∷ 0x17 ∷ []) (refused (short 2 2))
     ∷ sample 11
     (0x00 ∷ 0x23 ∷ 0x00 ∷ 0x0B ∷ 0x00 ∷ 0x00 ∷ 0x00 ∷ 0x00 ∷ 0x00 ∷ 0x00 ∷ 0x00 ∷ 0x10 ∷ 0x00 ∷ 0x10 ∷ 0x00 ∷ 0x03 ∷ 0x00 ∷ 0x10
     ∷ 0x00 ∷ 0x01 ∷ 0xAA ∷ 0x00 ∷ 0x01 ∷ 0xBB ∷ [])
     (consumed
-    (num ecc ∷ num 0x0B ∷ num 0 ∷ span 10 0 ∷ tag ecc ∷ num null ∷ tag null ∷ tag null ∷ num null ∷ tag empty ∷ num 3 ∷ num null ∷ tag null
+    (num ecc ∷ num 0x0B ∷ num 0 ∷ span 10 0 ∷ tag ecc ∷ num null ∷ tag null ∷ tag null ∷ num null ∷ tag null ∷ num 3 ∷ num null ∷ tag null
     ∷ tag ecc ∷ span 20 1 ∷ span 23 1 ∷ [])
     24
     [])
