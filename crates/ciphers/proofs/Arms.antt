@@ -1,5 +1,5 @@
 -- The arms of digests, told by their lengths. Assumes nothing.
-use Prim.Native.Nat.{ℕ, suc}
+use Prim.Native.Nat.{ℕ}
 use native.Mathlib.Omega.{arith}
 use mathlib.Core.Path.{_≡_, refl, sym, ap, _∙_}
 use mathlib.Core.Bool.{Bool, true, false}
@@ -16,7 +16,9 @@ use Rattle.wire.proofs.Steps.{next-found, parsed-same}
 use Rattle.wire.proofs.Search.{known, Shows, shown, by-whole, chosen, rests}
 use Rattle.format.specs.Kinds.{digestOf, tpmuHaArm, tpmuHaBody, tpmuHa}
 use Rattle.codes.specs.declared.DigestLen.{DigestLen}
+use Rattle.codes.specs.Codes.{null}
 use Rattle.codes.specs.Answers.{digestChoice}
+use Rattle.codes.proofs.Digests.{digest-not-empty}
 use Rattle.format.proofs.Tables.{digest-body}
 
 -- a digest's arm holds as many bytes as its algorithm has
@@ -45,15 +47,15 @@ digest-found {n = n} {e} {s} v src at q p k h =
     ∙ shown (search (digest-held, by-whole spanAnswer, rests))
 
 -- two lengths are equal when their digests' arms are; and no digest's arm is the empty one
-pub digest-due : {r l : ℕ} (n : ℕ) → r ≡ l → eqb r n ≡ eqb (suc l) (suc n)
+pub digest-due : {r l : ℕ} (n : ℕ) → r ≡ l → eqb r n ≡ eqb (digestOf l) (digestOf n)
 digest-due {r} {l} n e = rw e (go (eqb l n) refl)
   where
-    go : (b : Bool) → eqb l n ≡ b → eqb l n ≡ eqb (suc l) (suc n)
-    go true p = rw (eqb-true l n p, eq-eqb n n refl, eq-eqb (suc n) (suc n) refl)
-    go false p = let other = eqb-false l n p in rw (ne-eqb l n other, ne-eqb (suc l) (suc n) (λ e. omega arith))
+    go : (b : Bool) → eqb l n ≡ b → eqb l n ≡ eqb (digestOf l) (digestOf n)
+    go true p = rw (eqb-true l n p, eq-eqb n n refl, eq-eqb (digestOf n) (digestOf n) refl)
+    go false p = let other = eqb-false l n p in rw (ne-eqb l n other, ne-eqb (digestOf l) (digestOf n) (λ e. omega arith))
 
-pub digest-missing : (n : ℕ) → false ≡ eqb 0 (suc n)
-digest-missing n = sym (ne-eqb 0 (suc n) (λ e. omega arith))
+pub digest-missing : (n : ℕ) → false ≡ eqb null (digestOf n)
+digest-missing n = sym (ne-eqb null (digestOf n) (λ e. omega arith))
 
-pub digest-not-due : (n : ℕ) → false ≡ eqb (suc n) 0
-digest-not-due n = sym (ne-eqb (suc n) 0 (λ e. omega arith))
+pub digest-not-due : (n : ℕ) → false ≡ eqb (digestOf n) null
+digest-not-due n = sym (digest-not-empty n)

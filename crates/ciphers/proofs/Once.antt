@@ -1,9 +1,12 @@
 -- The parts of each type determine it, and no two answers of this crate mean the same. Assumes nothing.
-use Prim.Native.Nat.{zero, suc}
 use mathlib.Core.Path.{refl}
+use mathlib.Core.Bool.{cond}
 use mathlib.Core.List.{[], _∷_}
+use lib.Dec.{eqb}
 use Rattle.wire.proofs.Once.{Injective, Once, number-once, span-once, both, fields, holds, bare, tagged, union, answers}
 use Rattle.codes.specs.Codes.{aes, xor, null, sm4, camellia}
+use Rattle.wire.specs.Answers.{lenOf}
+use Rattle.codes.proofs.Digests.{digest-not-empty}
 use Rattle.codes.proofs.Once.{tpm-alg-id-once}
 use Rattle.ciphers.specs.declared.tpmu.TpmuHa.{TpmuHa}
 use Rattle.ciphers.specs.declared.tpmu.TpmuSymKeyBits.{TpmuSymKeyBits}
@@ -21,8 +24,8 @@ use Rattle.ciphers.specs.Answers.{tpmuHaAnswer, tpmuSymKeyBitsAnswer, tp
 -- a digest has an arm for each length
 pub tpmu-ha-once : Once tpmuHaParts
 tpmu-ha-once = record {
-  take = tagged (elim [ zero ↦ bare zero TpmuHa.Null .take | suc n ↦ holds (suc n) TpmuHa.Digest span-once .take ]);
-  back = λ u qs. elim u [ TpmuHa.Null ↦ refl | TpmuHa.Digest s ↦ rw (span-once .back s qs) ];
+  take = tagged (λ t. cond (eqb t null) (bare t TpmuHa.Null .take) (holds t TpmuHa.Digest span-once .take));
+  back = λ u qs. elim u [ TpmuHa.Null ↦ refl | TpmuHa.Digest s ↦ rw (digest-not-empty (lenOf s), span-once .back s qs) ];
 }
 
 pub tpmu-sym-key-bits-once : Once tpmuSymKeyBitsParts

@@ -3,7 +3,7 @@ use mathlib.Core.List.{List, [], _∷_, _++_}
 use Rattle.wire.specs.Answers.{lenOf, spanPart}
 use Rattle.wire.specs.Records.{Part, num, tag}
 use Rattle.codes.specs.Codes.{aes, xor, null, sm4, camellia}
-use Rattle.format.specs.Kinds.{empty, digestOf}
+use Rattle.format.specs.Kinds.{digestOf}
 use Rattle.ciphers.specs.declared.tpmu.TpmuHa.{TpmuHa}
 use Rattle.ciphers.specs.declared.tpmu.TpmuSymKeyBits.{TpmuSymKeyBits}
 use Rattle.ciphers.specs.declared.tpmu.TpmuSymMode.{TpmuSymMode}
@@ -13,7 +13,7 @@ use Rattle.ciphers.specs.declared.tpmt.TpmtSymDef.{TpmtSymDef}
 -- ---- unions
 
 abbrev pub tpmuHaParts : TpmuHa → List Part
-tpmuHaParts TpmuHa.Null = tag empty ∷ []
+tpmuHaParts TpmuHa.Null = tag null ∷ []
 tpmuHaParts (TpmuHa.Digest s) = tag (digestOf (lenOf s)) ∷ spanPart s ∷ []
 
 abbrev pub tpmuSymKeyBitsParts : TpmuSymKeyBits → List Part

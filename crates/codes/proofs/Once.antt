@@ -1,8 +1,9 @@
 -- No two answers of this crate mean the same. Assumes nothing.
-use Prim.Native.Nat.{zero, suc}
 use mathlib.Core.Path.{refl}
+use mathlib.Core.Bool.{cond}
 use mathlib.Core.List.{[], _∷_}
 use mathlib.Core.Option.{some}
+use lib.Dec.{eqb}
 use Rattle.wire.specs.declared.choice.Choice.{Choice}
 use Rattle.wire.specs.Records.{num}
 use Rattle.wire.proofs.Once.{Injective, undone, Once, number-once, fields, answers}
@@ -17,6 +18,9 @@ use Rattle.codes.specs.declared.TpmEccCurveRead.{TpmEccCurveRead}
 use Rattle.codes.specs.declared.TpmStRead.{TpmStRead}
 use Rattle.codes.specs.declared.DigestLen.{DigestLen}
 use Rattle.codes.specs.Answers.{uint8Answer, uint16Answer, uint32Answer, tpmAlgIdAnswer, tpmEccCurveAnswer, tpmStAnswer, digestChoice}
+use Rattle.codes.specs.Codes.{null}
+use Rattle.codes.specs.Digests.{digestSize}
+use Rattle.codes.proofs.Digests.{digest-sized, digest-not-empty}
 
 pub tpm-alg-id-once : Once (λ (a : TpmAlgId). num (a .0) ∷ [])
 tpm-alg-id-once = fields (λ a. a .0) (λ n. record { 0 = n }) (λ a. refl) number-once
@@ -47,5 +51,5 @@ tpm-st-answer-once = answers tpm-st-once TpmStRead.Found TpmStRead.No tpmStAnswe
 
 pub digest-choice-once : Injective digestChoice
 digest-choice-once = undone digestChoice
-    (elim [ Choice.The zero ↦ some DigestLen.Empty | Choice.The (suc n) ↦ some (DigestLen.Bytes n) | Choice.Nothing ↦ some DigestLen.Nothing ])
-    (elim [ DigestLen.Bytes n ↦ refl | DigestLen.Empty ↦ refl | DigestLen.Nothing ↦ refl ])
+    (elim [ Choice.The t ↦ some (cond (eqb t null) DigestLen.Empty (DigestLen.Bytes (digestSize t))) | Choice.Nothing ↦ some DigestLen.Nothing ])
+    (elim [ DigestLen.Bytes n ↦ rw (digest-not-empty n, digest-sized n) | DigestLen.Empty ↦ refl | DigestLen.Nothing ↦ refl ])

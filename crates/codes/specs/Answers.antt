@@ -1,5 +1,4 @@
 -- What the answers of the code's own readers mean. Assumes nothing.
-use Prim.Native.Nat.{suc}
 use mathlib.Core.List.{[], _∷_}
 use Rattle.wire.specs.declared.choice.Choice.{Choice}
 use Rattle.wire.specs.Records.{num, Ans, refused, Parsed, parsed}
@@ -10,6 +9,8 @@ use Rattle.codes.specs.declared.TpmAlgIdRead.{TpmAlgIdRead}
 use Rattle.codes.specs.declared.TpmEccCurveRead.{TpmEccCurveRead}
 use Rattle.codes.specs.declared.TpmStRead.{TpmStRead}
 use Rattle.codes.specs.declared.DigestLen.{DigestLen}
+use Rattle.codes.specs.Codes.{null}
+use Rattle.codes.specs.Digests.{digestOf}
 
 -- a number that was read, and where it ends
 abbrev pub uint8Answer : Uint8Read → Ans Parsed
@@ -37,8 +38,8 @@ abbrev pub tpmStAnswer : TpmStRead → Ans Parsed
 tpmStAnswer (TpmStRead.Found t e) = parsed (num (t .0) ∷ []) e
 tpmStAnswer (TpmStRead.No f) = refused f
 
--- a digest's length as the arm of its union: one more, so that no digest is the empty arm
+-- a digest's length as the arm of its union; the empty digest is Null's arm
 abbrev pub digestChoice : DigestLen → Choice
-digestChoice (DigestLen.Bytes n) = Choice.The (suc n)
-digestChoice DigestLen.Empty = Choice.The 0
+digestChoice (DigestLen.Bytes n) = Choice.The (digestOf n)
+digestChoice DigestLen.Empty = Choice.The null
 digestChoice DigestLen.Nothing = Choice.Nothing

@@ -1,23 +1,24 @@
 -- How long the digest of each algorithm is, as the table of the union TPMU_HA. Assumes nothing.
-use Prim.Native.Nat.{ℕ, suc}
+use Prim.Native.Nat.{ℕ, _+_, _-_}
 use mathlib.Core.List.{List, [], _∷_}
 use Rattle.wire.specs.declared.choice.Choice.{Choice}
 use Rattle.wire.specs.Layout.{stop, plain}
-use Rattle.wire.specs.Unions.{Row, row, armOf}
+use Rattle.wire.specs.Unions.{Row, row, own, armOf}
 use Rattle.codes.specs.Codes.{sha1, sha256, sha384, sha512, null, sm3-256, sha3-256, sha3-384, sha3-512, shake256-192, shake256-256, shake256-512}
 
--- the empty arm
-abbrev pub empty : ℕ
-empty = 0
-
--- a digest of n bytes: one more than its length, so that no digest is the empty arm
+-- the arm of a digest of n bytes: 256 more than its length, so that no digest, however long, has an algorithm's code
 abbrev pub digestOf : ℕ → ℕ
-digestOf n = suc n
+digestOf n = n + 256
 
--- TPMU_HA: a plain digest as long as its algorithm has it, or nothing
+-- how long a digest is, by its arm; 0 for an arm that is no digest
+abbrev pub digestSize : ℕ → ℕ
+digestSize t = t - 256
+
+-- the row of an algorithm whose digest has n bytes
 abbrev pub digestRow : (selector n : ℕ) → Row
 digestRow v n = row v (digestOf n) (plain n stop)
 
+-- TPMU_HA: a plain digest as long as its algorithm has it, or nothing
 abbrev pub tpmuHaTable : List Row
 tpmuHaTable =
     digestRow sha1 20
@@ -31,8 +32,9 @@ tpmuHaTable =
     ∷ digestRow sha512 64
     ∷ digestRow sha3-512 64
     ∷ digestRow shake256-512 64
-    ∷ row null empty stop
+    ∷ own null stop
     ∷ []
 
+-- the arm of an algorithm's digest
 unfoldable pub tpmuHaArm : ℕ → Choice
 tpmuHaArm v = armOf tpmuHaTable v

@@ -14,6 +14,8 @@ use Rattle.wire.proofs.Sizes.{stop-most, no-arm-most, arm-most, number-most, pl
 use Rattle.format.specs.declared.list.ListOf.the-variants.{PcrSelection}
 use Rattle.codes.specs.Codes.{algorithms, attestations, isAlgorithm, isAttestation, alg, curve, attestation, yesNo, magic}
 use Rattle.format.specs.Kinds.{tpmuHaTable, tpmuAsymSchemeTable, tpmuSigSchemeTable, tpmuKeyedhashSchemeTable, tpmuKdfSchemeTable, tpmuSymKeyBitsTable, tpmuSymModeTable, tpmuPublicParmsTable, tpmuPublicIdTable, tpmuSensitiveCompositeTable, tpmuSignatureTable, tpmuAttestTable, tpmuHaArm, tpmuAsymSchemeArm, tpmuSigSchemeArm, tpmuKeyedhashSchemeArm, tpmuKdfSchemeArm, tpmuSymKeyBitsArm, tpmuSymModeArm, tpmuPublicParmsArm, tpmuPublicIdArm, tpmuSensitiveCompositeArm, tpmuSignatureArm, tpmuAttestArm, tpmsSchemeHash, tpmsSchemeXor, tpmuHa, tpmuAsymScheme, tpmuSigScheme, tpmuKeyedhashScheme, tpmuKdfScheme, tpmuSymKeyBits, tpmuSymMode, tpmuPublicParms, tpmuPublicId, tpmuSensitiveComposite, tpmuSignature, tpmuAttest, tpmtHa, tpmtSymDef, tpmtKdfScheme, tpmtKeyedhashScheme, tpmtSigScheme, tpmtAsymScheme, tpmsRsaParms, tpmsEccParms, tpmsEccPoint, tpmsSignatureRsa, tpmsSignatureEcc, tpmtPublicParms, tpmtSignature, tpmtPublic, tpmtSensitive, tpmlPcrSelection, tpmsClockInfo, tpmsCertifyInfo, tpmsCreationInfo, tpmsQuoteInfo, tpmsCommandAuditInfo, tpmsSessionAuditInfo, tpmsTimeInfo, tpmsTimeAttestInfo, tpmsNvCertifyInfo, tpmsNvDigestCertifyInfo, tpmsAttest, kinds}
+use Rattle.format.specs.Sizes.{greatest, AllGreatest}
+use Rattle.format.proofs.Tables.{_&_}
 use Rattle.format.proofs.Lists.{list-greatest}
 
 -- ---- unions: every arm that can be chosen is small enough
@@ -30,11 +32,6 @@ none-most = most-wider (omega arith) stop-most
 abbrev RowsMost : List Row → ℕ → Type 0
 RowsMost [] m = Unit {0}
 RowsMost (r ∷ rs) m = AtMost (r .holds) m × RowsMost rs m
-
--- a proof for each row, one behind the other
-infixr 20 _&_
-abbrev _&_ : {A B : Type 0} → A → B → A × B
-a & b = (a, b)
 
 cond-most : {m : ℕ} (b : Bool) (k l : Layout) → AtMost k m → AtMost l m → AtMost (cond b k l) m
 cond-most true k l h g = h
@@ -228,7 +225,7 @@ attest-most =
 
 ha-reaches : Reaches tpmtHa 66
 unfolding tpmtHa isAlgorithm algorithms tpmuHa tpmuHaArm
-ha-reaches = number-reaches 2 alg 0x0D (omega arith) refl (arm-reaches 0x0D 65 (plain-reaches 64 stop-reaches))
+ha-reaches = number-reaches 2 alg 0x0D (omega arith) refl (arm-reaches 0x0D 320 (plain-reaches 64 stop-reaches))
 
 code-reaches : Reaches (one 2 alg) 2
 unfolding isAlgorithm algorithms
@@ -314,16 +311,6 @@ attest-reaches =
     (buffer-reaches 2 66 (omega arith) (then-reaches clock-reaches (number-reaches 8 free 0 (omega arith) refl nv-reaches)))))
 
 -- ---- all fourteen
-
--- the greatest sizes, kinds 1 to 14
-unfoldable pub greatest : List ℕ
-greatest = 66 ∷ 6 ∷ 4 ∷ 6 ∷ 4 ∷ 4 ∷ 4 ∷ 4 ∷ 18 ∷ 518 ∷ 604 ∷ 392 ∷ 2287 ∷ 116 ∷ []
-
-abbrev pub AllGreatest : List Layout → List ℕ → Type 0
-AllGreatest [] [] = Unit {0}
-AllGreatest [] (m ∷ ms) = ⊥
-AllGreatest (l ∷ ls) [] = ⊥
-AllGreatest (l ∷ ls) (m ∷ ms) = Greatest l m × AllGreatest ls ms
 
 both : {l : Layout} {m : ℕ} → AtMost l m → Reaches l m → Greatest l m
 both h g = record { most = h; reached = g }

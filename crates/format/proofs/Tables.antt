@@ -1,5 +1,5 @@
 -- What holds of the twelve tables. Assumes nothing.
-use Prim.Native.Nat.{ℕ, zero, suc, _≤_}
+use Prim.Native.Nat.{ℕ, _≤_}
 use native.Mathlib.Omega.{arith}
 use mathlib.Core.Path.{_≡_, refl, sym}
 use mathlib.Core.Bool.{Bool, true, false, cond}
@@ -7,10 +7,15 @@ use mathlib.Core.List.{List, [], _∷_}
 use Rattle.wire.specs.declared.choice.Choice.the-variants.{Nothing, The}
 use Rattle.wire.specs.Layout.{Layout, stop, plain}
 use Rattle.wire.specs.Unions.{Row}
-use Rattle.format.specs.Kinds.{empty, digestOf, tpmsSchemeHash, tpmuHaTable, tpmuAsymSchemeTable, tpmuSigSchemeTable, tpmuKeyedhashSchemeTable, tpmuKdfSchemeTable, tpmuSymKeyBitsTable, tpmuSymModeTable, tpmuPublicParmsTable, tpmuPublicIdTable, tpmuSensitiveCompositeTable, tpmuSignatureTable, tpmuAttestTable, tpmuHaArm, tpmuHaBody, tpmuSigSchemeArm, tpmuSigSchemeBody, tpmuSymKeyBitsArm, tpmuSymModeArm, tpmuPublicParmsArm, tpmuPublicIdArm, tpmuAttestArm}
-use Rattle.codes.specs.Codes.{member, attestations, isAttestation}
-use Rattle.codes.proofs.Digests.{Agrees}
-use Rattle.codes.proofs.Choices.{chosen-has, chosen-listed, none-listed}
+use Rattle.format.specs.Kinds.{digestOf, digestSize, tpmsSchemeHash, tpmuHaTable, tpmuAsymSchemeTable, tpmuSigSchemeTable, tpmuKeyedhashSchemeTable, tpmuKdfSchemeTable, tpmuSymKeyBitsTable, tpmuSymModeTable, tpmuPublicParmsTable, tpmuPublicIdTable, tpmuSensitiveCompositeTable, tpmuSignatureTable, tpmuAttestTable, tpmuHaArm, tpmuHaBody, tpmuSigSchemeArm, tpmuSigSchemeBody, tpmuSymKeyBitsArm, tpmuSymModeArm, tpmuPublicParmsArm, tpmuPublicIdArm, tpmuAttestArm}
+use Rattle.codes.specs.Codes.{null, member, attestations, isAttestation}
+use Rattle.codes.proofs.Digests.{Agrees, digests-agree, digest-sized}
+use Rattle.codes.proofs.Choices.{Each, chosen-has, chosen-listed, none-listed}
+
+-- a proof for each row of a table, one behind the other
+infixr 20 _&_
+abbrev pub _&_ : {A B : Type 0} → A → B → A × B
+a & b = (a, b)
 
 -- in each of some tables
 abbrev pub AllAgree : List (List Row) → Type 0
@@ -35,7 +40,7 @@ tables =
     ∷ []
 
 pub tables-agree : AllAgree tables
-tables-agree = (refl, (refl, (refl, (refl, (refl, (refl, (refl, (refl, (refl, (refl, (refl, (refl, tt))))))))))))
+tables-agree = digests-agree & refl & refl & refl & refl & refl & refl & refl & refl & refl & refl & refl & tt
 
 -- key bits and mode are chosen alike, and so are parameters and unique
 pub mode-arm : (v : ℕ) → tpmuSymModeArm v ≡ tpmuSymKeyBitsArm v
@@ -46,29 +51,28 @@ pub id-arm : (v : ℕ) → tpmuPublicIdArm v ≡ tpmuPublicParmsArm v
 unfolding tpmuPublicIdArm tpmuPublicParmsArm
 id-arm v = refl
 
--- a digest's arm, one more than its length, is at most 65
-pub digest-short : (v : ℕ) {t : ℕ} → tpmuHaArm v ≡ The t → t ≤ 65
+-- a digest's arm, 256 more than its length, is at most 320
+pub digest-short : (v : ℕ) {t : ℕ} → tpmuHaArm v ≡ The t → t ≤ 320
 unfolding tpmuHaArm
-digest-short v e = chosen-has (λ t. t ≤ 65) tpmuHaTable (omega arith) v e
+digest-short v e = chosen-has (λ t. t ≤ 320) tpmuHaTable (omega arith) v e
 
-abbrev digestHeld : ℕ → Layout
-digestHeld zero = stop
-digestHeld (suc n) = plain n stop
-
--- and holds so many bytes
+-- and holds as many bytes as its length
 pub digest-body : (v : ℕ) {n : ℕ} → tpmuHaArm v ≡ The (digestOf n) → tpmuHaBody (digestOf n) ≡ plain n stop
 unfolding tpmuHaArm
-digest-body v e = chosen-has (λ t. tpmuHaBody t ≡ digestHeld t) tpmuHaTable (refl, (refl, (refl, (refl, (refl, (refl, (refl, (refl, (refl, (refl, (refl, (refl, tt)))))))))))) v e
-
-abbrev schemeHeld : ℕ → Layout
-schemeHeld zero = stop
-schemeHeld (suc n) = tpmsSchemeHash
+digest-body v {n} e = rw (digest-sized n) at (chosen-has (λ t. (t ≡ null → ⊥) → tpmuHaBody t ≡ plain (digestSize t) stop) tpmuHaTable rows v e (λ q. omega arith))
+  where
+    rows : Each (λ t. (t ≡ null → ⊥) → tpmuHaBody t ≡ plain (digestSize t) stop) tpmuHaTable
+    rows =
+        (λ h. refl) & (λ h. refl) & (λ h. refl) & (λ h. refl) & (λ h. refl) & (λ h. refl) & (λ h. refl) & (λ h. refl) & (λ h. refl) & (λ h. refl) & (λ h. refl)
+        & (λ h. absurd (h refl)) & tt
 
 -- an arm of the signing schemes that is not empty holds a hash code
-pub hash-body : (v : ℕ) (t : ℕ) → tpmuSigSchemeArm v ≡ The t → (t ≡ empty → ⊥) → tpmuSigSchemeBody t ≡ tpmsSchemeHash
+pub hash-body : (v : ℕ) (t : ℕ) → tpmuSigSchemeArm v ≡ The t → (t ≡ null → ⊥) → tpmuSigSchemeBody t ≡ tpmsSchemeHash
 unfolding tpmuSigSchemeArm
-hash-body v zero e h = absurd (h refl)
-hash-body v (suc t) e h = chosen-has (λ t. tpmuSigSchemeBody t ≡ schemeHeld t) tpmuSigSchemeTable (refl, (refl, (refl, (refl, (refl, (refl, (refl, (refl, tt)))))))) v e
+hash-body v t e = chosen-has (λ t. (t ≡ null → ⊥) → tpmuSigSchemeBody t ≡ tpmsSchemeHash) tpmuSigSchemeTable rows v e
+  where
+    rows : Each (λ t. (t ≡ null → ⊥) → tpmuSigSchemeBody t ≡ tpmsSchemeHash) tpmuSigSchemeTable
+    rows = (λ h. refl) & (λ h. refl) & (λ h. refl) & (λ h. refl) & (λ h. refl) & (λ h. refl) & (λ h. refl) & (λ h. absurd (h refl)) & tt
 
 -- the listed attestation types are those with an arm
 pub attestation-arm : (v : ℕ) → tpmuAttestArm v ≡ cond (isAttestation v) (The v) Nothing

@@ -12,7 +12,7 @@ use Rattle.wire.specs.Reading.{Reader, read}
 use Rattle.wire.specs.Unions.{Row, row, own, armOf, bodyOf, union}
 use Rattle.format.specs.declared.list.ListOf.{ListOf}
 use Rattle.format.specs.declared.list.ListOf.the-variants.{PcrSelection}
-pub use Rattle.codes.specs.Digests.{empty, digestOf, tpmuHaTable}
+pub use Rattle.codes.specs.Digests.{digestOf, digestSize, tpmuHaTable}
 unfoldable pub use Rattle.codes.specs.Digests.{tpmuHaArm}
 use Rattle.codes.specs.Codes.{alg, curve, attestation, yesNo, magic, rsa, hmac, aes, mgf1, keyedHash, xor, null, sm4, rsassa, rsaes, rsapss, oaep, ecdsa, ecdh, ecdaa, sm2, ecschnorr, ecmqv, kdf1-sp800-56a, kdf2, kdf1-sp800-108, ecc, symCipher, camellia, attestNv, attestCommandAudit, attestSessionAudit, attestCertify, attestQuote, attestTime, attestCreation, attestNvDigest}
 
@@ -45,14 +45,12 @@ qualifying l = buffer 2 66 l
 abbrev pub nvContents : Layout → Layout
 nvContents l = buffer 2 2048 l
 
--- ---- the arms of unions: where several selectors choose one arm, it has a number of its own; elsewhere it has its selector's code
+-- ---- the numbers of arms: an arm that one selector alone chooses has that selector's code. The empty arm is Null's and has Null's code, also where Rsaes
+-- chooses it too. Else an arm that several selectors choose has a number that is no selector's code in its union: a hash code 1, and a digest its digestOf
 
--- a hash code; and the signing scheme's Hmac arm, which holds one too and is another arm
+-- a hash code that several schemes choose
 abbrev pub hash : ℕ
 hash = 1
-
-abbrev pub hmacHash : ℕ
-hmacHash = 2
 
 -- ---- digests, ciphers and schemes: kinds 1 to 8
 
@@ -74,8 +72,8 @@ tpmuHa v = union (tpmuHaArm v) tpmuHaBody v
 -- TPMU_ASYM_SCHEME: a hash code, or nothing
 abbrev pub tpmuAsymSchemeTable : List Row
 tpmuAsymSchemeTable =
-    row rsaes empty stop
-    ∷ row null empty stop
+    row rsaes null stop
+    ∷ own null stop
     ∷ row rsassa hash tpmsSchemeHash
     ∷ row rsapss hash tpmsSchemeHash
     ∷ row ecdsa hash tpmsSchemeHash
@@ -99,14 +97,14 @@ tpmuAsymScheme v = union (tpmuAsymSchemeArm v) tpmuAsymSchemeBody v
 -- TPMU_SIG_SCHEME: a hash code, or nothing; the Hmac arm is apart
 abbrev pub tpmuSigSchemeTable : List Row
 tpmuSigSchemeTable =
-    row hmac hmacHash tpmsSchemeHash
+    own hmac tpmsSchemeHash
     ∷ row rsassa hash tpmsSchemeHash
     ∷ row rsapss hash tpmsSchemeHash
     ∷ row ecdsa hash tpmsSchemeHash
     ∷ row ecdaa hash tpmsSchemeHash
     ∷ row sm2 hash tpmsSchemeHash
     ∷ row ecschnorr hash tpmsSchemeHash
-    ∷ row null empty stop
+    ∷ own null stop
     ∷ []
 
 unfoldable pub tpmuSigSchemeArm : ℕ → Choice

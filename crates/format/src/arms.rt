@@ -1,4 +1,5 @@
 // The arms that a selector chooses, a function for each union. Key bits and mode have one choice, and so have parameters and unique.
+// The numbers of the arms are those of the tables.
 use codes::DigestLen;
 use codes::TpmAlgId;
 use codes::TpmSt;
@@ -7,12 +8,18 @@ use wire::choice::Choice;
 ghost use mathlib.Core.Path.{_≡_};
 ghost use Rattle.format.specs.Kinds.{tpmuHaArm, tpmuAsymSchemeArm, tpmuSigSchemeArm, tpmuKeyedhashSchemeArm, tpmuKdfSchemeArm, tpmuSymKeyBitsArm, tpmuSymModeArm, tpmuPublicParmsArm, tpmuPublicIdArm, tpmuSensitiveCompositeArm, tpmuSignatureArm, tpmuAttestArm};
 
+// The arm of a hash code that several schemes choose.
+pub const HASH: u16 = 1;
+
+// The arm of a digest of no bytes; each byte of a digest is one more.
+pub const DIGEST: u16 = 256;
+
 pub fn ha_arm(tag: TpmAlgId) -> Choice
     ensures { λ r. ⌜ r ≡ tpmuHaArm (tag .0) ⌝ }
 {
     match tag.digest_len() {
-        DigestLen::Bytes(n) => Choice::The(n + 1),
-        DigestLen::Empty => Choice::The(0),
+        DigestLen::Bytes(n) => Choice::The(n + DIGEST),
+        DigestLen::Empty => Choice::The(registry::NULL),
         DigestLen::Nothing => Choice::Nothing,
     }
 }
@@ -22,7 +29,7 @@ pub fn asym_scheme_arm(tag: TpmAlgId) -> Choice
 {
     let a = tag.0;
     match a {
-        registry::RSAES | registry::NULL => Choice::The(0),
+        registry::RSAES | registry::NULL => Choice::The(registry::NULL),
         registry::RSASSA
         | registry::RSAPSS
         | registry::ECDSA
@@ -31,7 +38,7 @@ pub fn asym_scheme_arm(tag: TpmAlgId) -> Choice
         | registry::ECSCHNORR
         | registry::OAEP
         | registry::ECDH
-        | registry::ECMQV => Choice::The(1),
+        | registry::ECMQV => Choice::The(HASH),
         _ => Choice::Nothing,
     }
 }
@@ -41,14 +48,13 @@ pub fn sig_scheme_arm(tag: TpmAlgId) -> Choice
 {
     let a = tag.0;
     match a {
-        registry::NULL => Choice::The(0),
+        registry::HMAC | registry::NULL => Choice::The(a),
         registry::RSASSA
         | registry::RSAPSS
         | registry::ECDSA
         | registry::ECDAA
         | registry::SM2
-        | registry::ECSCHNORR => Choice::The(1),
-        registry::HMAC => Choice::The(2),
+        | registry::ECSCHNORR => Choice::The(HASH),
         _ => Choice::Nothing,
     }
 }

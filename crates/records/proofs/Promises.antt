@@ -10,7 +10,7 @@ use Rattle.faults.specs.declared.Refusal.{Refusal}
 use Rattle.wire.specs.Bytes.{Bytes}
 use Rattle.wire.specs.Layout.{Layout}
 use Rattle.wire.specs.Records.{found, refused, Parsed, parsed}
-use Rattle.wire.specs.Reading.{read, endOf}
+use Rattle.wire.specs.Reading.{read, endOf, IsShort}
 use Rattle.wire.specs.Grammar.{Token, Spells, Starts, placed, shown}
 use Rattle.wire.specs.Refusals.{Refuses}
 use Rattle.wire.specs.Editions.{Later, Newer, Foreign}
@@ -20,7 +20,7 @@ use Rattle.wire.proofs.Complete.{read-complete, placed-shows}
 use Rattle.wire.proofs.Sound.{read-sound}
 use Rattle.wire.proofs.Prefix.{starts-read, refused-none, none-refused, prefix-free, one-spelling}
 use Rattle.wire.proofs.Refused.{refuses-read, read-refuses}
-use Rattle.wire.proofs.Stable.{IsShort, cut-short}
+use Rattle.wire.proofs.Stable.{cut-short}
 use Rattle.wire.proofs.Later.{later-read, later-cut}
 use Rattle.format.specs.Kinds.{isKind, layoutOf, readKind}
 use Rattle.format.proofs.Numbered.{of-kind}

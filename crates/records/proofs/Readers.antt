@@ -17,14 +17,13 @@ use Rattle.wire.specs.Answers.{measureAnswer}
 use Rattle.wire.specs.Bytes.{Bytes}
 use Rattle.wire.specs.Layout.{Layout, noArm}
 use Rattle.wire.specs.Records.{Part, Ans, refused, Parsed, parsed, left}
-use Rattle.wire.specs.Reading.{read, readWhole, endOf}
+use Rattle.wire.specs.Reading.{read, readWhole, endOf, IsShort}
 use Rattle.wire.specs.Grammar.{Token, Spells, Stands, Starts, placed, shown}
 use Rattle.wire.specs.Refusals.{Refuses, RefusesWhole, first-fault, left-over}
 use Rattle.wire.specs.Unions.{isArm}
 use Rattle.wire.specs.Editions.{Later, Newer, Foreign}
 use Rattle.wire.proofs.Complete.{read-complete, placed-shows}
 use Rattle.wire.proofs.Prefix as prefix
-use Rattle.wire.proofs.Stable.{IsShort}
 use Rattle.wire.proofs.Later.{Verdict, later}
 use Rattle.wire.proofs.Refused.{refuses-read}
 use Rattle.wire.proofs.Answers.{measure-answer-once}

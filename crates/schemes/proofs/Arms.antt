@@ -1,6 +1,5 @@
 -- The arms of the schemes' unions, told by their numbers. Assumes nothing.
-use Prim.Native.Nat.{ℕ, _≤_}
-use native.Mathlib.Omega.{arith}
+use Prim.Native.Nat.{ℕ}
 use mathlib.Core.Path.{_≡_, refl, sym, _∙_}
 use mathlib.Core.List.{List}
 use Rattle.faults.specs.declared.Refusal.{Refusal}
@@ -9,22 +8,33 @@ use Rattle.wire.specs.declared.choice.Choice.the-variants.{The}
 use Rattle.wire.specs.Records.{tag, refused}
 use Rattle.wire.specs.Reading.{read}
 use Rattle.wire.proofs.Search.{Shows, shown, front-no, chosen}
-use Rattle.format.specs.Kinds.{tpmuAsymSchemeTable, tpmuAsymSchemeArm, tpmuSigSchemeTable, tpmuSigSchemeArm, tpmsSchemeHash, tpmuSigSchemeBody, tpmuSigScheme}
-use Rattle.codes.proofs.Choices.{chosen-has}
-use Rattle.format.proofs.Tables.{hash-body}
+use Rattle.format.specs.Kinds.{hash, tpmuAsymSchemeTable, tpmuAsymSchemeArm, tpmuSigSchemeTable, tpmuSigSchemeArm, tpmsSchemeHash, tpmuSigSchemeBody, tpmuSigScheme}
+use Rattle.codes.specs.Codes.{null, hmac}
+use Rattle.codes.proofs.Choices.{Each, chosen-has}
+use Rattle.format.proofs.Tables.{_&_, hash-body}
 
 -- an arm of the asymmetric schemes that is not empty holds a hash
-pub asym-hash : {a : Choice} {t : ℕ} (v : ℕ) → a ≡ The t → a ≡ tpmuAsymSchemeArm v → (t ≡ 0 → ⊥) → t ≡ 1
+pub asym-hash : {a : Choice} {t : ℕ} (v : ℕ) → a ≡ The t → a ≡ tpmuAsymSchemeArm v → (t ≡ null → ⊥) → t ≡ hash
 unfolding tpmuAsymSchemeArm
-asym-hash v q p h = let most = chosen-has (λ t. t ≤ 1) tpmuAsymSchemeTable (omega arith) v (sym p ∙ q) in omega arith
+asym-hash v q p = chosen-has (λ t. (t ≡ null → ⊥) → t ≡ hash) tpmuAsymSchemeTable rows v (sym p ∙ q)
+  where
+    rows : Each (λ t. (t ≡ null → ⊥) → t ≡ hash) tpmuAsymSchemeTable
+    rows =
+        (λ h. absurd (h refl)) & (λ h. absurd (h refl)) & (λ h. refl) & (λ h. refl) & (λ h. refl) & (λ h. refl) & (λ h. refl) & (λ h. refl) & (λ h. refl)
+        & (λ h. refl) & (λ h. refl) & tt
 
 -- an arm of the signing schemes that is neither empty nor a hash is Hmac's
-pub sig-hmac : {a : Choice} {t : ℕ} (v : ℕ) → a ≡ The t → a ≡ tpmuSigSchemeArm v → (t ≡ 0 → ⊥) → (t ≡ 1 → ⊥) → t ≡ 2
+pub sig-hmac : {a : Choice} {t : ℕ} (v : ℕ) → a ≡ The t → a ≡ tpmuSigSchemeArm v → (t ≡ null → ⊥) → (t ≡ hash → ⊥) → t ≡ hmac
 unfolding tpmuSigSchemeArm
-sig-hmac v q p h g = let most = chosen-has (λ t. t ≤ 2) tpmuSigSchemeTable (omega arith) v (sym p ∙ q) in omega arith
+sig-hmac v q p = chosen-has (λ t. (t ≡ null → ⊥) → (t ≡ hash → ⊥) → t ≡ hmac) tpmuSigSchemeTable rows v (sym p ∙ q)
+  where
+    rows : Each (λ t. (t ≡ null → ⊥) → (t ≡ hash → ⊥) → t ≡ hmac) tpmuSigSchemeTable
+    rows =
+        (λ h g. refl) & (λ h g. absurd (g refl)) & (λ h g. absurd (g refl)) & (λ h g. absurd (g refl)) & (λ h g. absurd (g refl)) & (λ h g. absurd (g refl))
+        & (λ h g. absurd (g refl)) & (λ h g. absurd (h refl)) & tt
 
 -- every arm but the empty one holds a hash code, and where that is refused so is the union
 pub sig-refused : {a : Choice} {t : ℕ} {f : Refusal} (v : ℕ) (src : List ℕ) (at : ℕ)
-    → a ≡ The t → a ≡ tpmuSigSchemeArm v → (t ≡ 0 → ⊥) → Shows (refused f) (read tpmsSchemeHash src at) → refused f ≡ read (tpmuSigScheme v) src at
+    → a ≡ The t → a ≡ tpmuSigSchemeArm v → (t ≡ null → ⊥) → Shows (refused f) (read tpmsSchemeHash src at) → refused f ≡ read (tpmuSigScheme v) src at
 unfolding tpmuSigScheme
 sig-refused {t = t} v src at q p h e = shown (chosen tpmuSigSchemeArm tpmuSigSchemeBody t v src at q p refl (rw (hash-body v t (sym p ∙ q) h) (front-no (tag t) e)))

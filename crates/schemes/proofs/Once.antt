@@ -3,7 +3,7 @@ use mathlib.Core.Path.{refl}
 use mathlib.Core.List.{[], _∷_}
 use Rattle.wire.proofs.Once.{Injective, Once, both, fields, holds, bare, union, answers}
 use Rattle.codes.specs.Codes.{hmac, mgf1, xor, null, kdf1-sp800-56a, kdf2, kdf1-sp800-108}
-use Rattle.format.specs.Kinds.{empty, hash, hmacHash}
+use Rattle.format.specs.Kinds.{hash}
 use Rattle.codes.proofs.Once.{tpm-alg-id-once}
 use Rattle.schemes.specs.declared.tpms.TpmsSchemeHashRead.{TpmsSchemeHashRead}
 use Rattle.schemes.specs.declared.tpms.TpmsSchemeXorRead.{TpmsSchemeXorRead}
@@ -38,7 +38,7 @@ pub tpmu-asym-scheme-once : Once tpmuAsymSchemeParts
 tpmu-asym-scheme-once =
     union
     (holds hash TpmuAsymScheme.Hash tpms-scheme-hash-once
-    ∷ bare empty TpmuAsymScheme.Null
+    ∷ bare null TpmuAsymScheme.Null
     ∷ [])
     (λ u qs. elim u [
       | TpmuAsymScheme.Hash x ↦ rw (tpms-scheme-hash-once .back x qs)
@@ -49,8 +49,8 @@ pub tpmu-sig-scheme-once : Once tpmuSigSchemeParts
 tpmu-sig-scheme-once =
     union
     (holds hash TpmuSigScheme.Hash tpms-scheme-hash-once
-    ∷ holds hmacHash TpmuSigScheme.Hmac tpms-scheme-hash-once
-    ∷ bare empty TpmuSigScheme.Null
+    ∷ holds hmac TpmuSigScheme.Hmac tpms-scheme-hash-once
+    ∷ bare null TpmuSigScheme.Null
     ∷ [])
     (λ u qs. elim u [
       | TpmuSigScheme.Hash x ↦ rw (tpms-scheme-hash-once .back x qs)

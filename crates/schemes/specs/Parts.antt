@@ -2,7 +2,7 @@
 use mathlib.Core.List.{List, [], _∷_}
 use Rattle.wire.specs.Records.{Part, num, tag}
 use Rattle.codes.specs.Codes.{hmac, mgf1, xor, null, kdf1-sp800-56a, kdf2, kdf1-sp800-108}
-use Rattle.format.specs.Kinds.{empty, hash, hmacHash}
+use Rattle.format.specs.Kinds.{hash}
 use Rattle.schemes.specs.declared.tpms.TpmsSchemeHash.{TpmsSchemeHash}
 use Rattle.schemes.specs.declared.tpms.TpmsSchemeXor.{TpmsSchemeXor}
 use Rattle.schemes.specs.declared.tpmu.TpmuAsymScheme.{TpmuAsymScheme}
@@ -28,12 +28,12 @@ tpmsSchemeXorParts x = num (x .«hash_alg» .0) ∷ num (x .kdf .0) ∷ []
 
 abbrev pub tpmuAsymSchemeParts : TpmuAsymScheme → List Part
 tpmuAsymSchemeParts (TpmuAsymScheme.Hash h) = tag hash ∷ tpmsSchemeHashParts h
-tpmuAsymSchemeParts TpmuAsymScheme.Null = tag empty ∷ []
+tpmuAsymSchemeParts TpmuAsymScheme.Null = tag null ∷ []
 
 abbrev pub tpmuSigSchemeParts : TpmuSigScheme → List Part
 tpmuSigSchemeParts (TpmuSigScheme.Hash h) = tag hash ∷ tpmsSchemeHashParts h
-tpmuSigSchemeParts (TpmuSigScheme.Hmac h) = tag hmacHash ∷ tpmsSchemeHashParts h
-tpmuSigSchemeParts TpmuSigScheme.Null = tag empty ∷ []
+tpmuSigSchemeParts (TpmuSigScheme.Hmac h) = tag hmac ∷ tpmsSchemeHashParts h
+tpmuSigSchemeParts TpmuSigScheme.Null = tag null ∷ []
 
 abbrev pub tpmuKeyedhashSchemeParts : TpmuKeyedhashScheme → List Part
 tpmuKeyedhashSchemeParts (TpmuKeyedhashScheme.Hmac h) = tag hmac ∷ tpmsSchemeHashParts h

@@ -7,6 +7,7 @@ use crate::tpms::TpmsSchemeXorRead;
 use codes::TpmAlgId;
 use codes::registry;
 use faults::Refusal;
+use format::arms::HASH;
 use format::arms::asym_scheme_arm;
 use format::arms::kdf_scheme_arm;
 use format::arms::keyedhash_scheme_arm;
@@ -74,7 +75,7 @@ impl TpmuAsymScheme {
     {
         match asym_scheme_arm(tag) {
             Choice::The(t) => {
-                if t == 0 {
+                if t == registry::NULL {
                     return TpmuAsymSchemeRead::Found(Self::Null, at);
                 }
                 match TpmsSchemeHash::unmarshal(s, at) {
@@ -91,8 +92,8 @@ impl TpmuAsymScheme {
     {
         let chosen = asym_scheme_arm(tag);
         match self {
-            Self::Hash(_) => chosen.is(1),
-            Self::Null => chosen.is(0),
+            Self::Hash(_) => chosen.is(HASH),
+            Self::Null => chosen.is(registry::NULL),
         }
     }
 
@@ -155,12 +156,12 @@ impl TpmuSigScheme {
     {
         match sig_scheme_arm(tag) {
             Choice::The(t) => {
-                if t == 0 {
+                if t == registry::NULL {
                     return TpmuSigSchemeRead::Found(Self::Null, at);
                 }
                 match TpmsSchemeHash::unmarshal(s, at) {
                     TpmsSchemeHashRead::Found(x, e) => {
-                        if t == 1 {
+                        if t == HASH {
                             return TpmuSigSchemeRead::Found(Self::Hash(x), e);
                         }
                         TpmuSigSchemeRead::Found(Self::Hmac(x), e)
@@ -177,9 +178,9 @@ impl TpmuSigScheme {
     {
         let chosen = sig_scheme_arm(tag);
         match self {
-            Self::Hash(_) => chosen.is(1),
-            Self::Hmac(_) => chosen.is(2),
-            Self::Null => chosen.is(0),
+            Self::Hash(_) => chosen.is(HASH),
+            Self::Hmac(_) => chosen.is(registry::HMAC),
+            Self::Null => chosen.is(registry::NULL),
         }
     }
 

@@ -248,10 +248,12 @@ module _ (v : ℕ) (c : Choice) (b : Bool) (w : Walk) where
 pub judged-as : (m n : Measure) (r : Walk) → m ≡ n → r ≡ judged (measureAnswer n) → r ≡ judged (measureAnswer m)
 judged-as m n r e p = p ∙ ap (λ x. judged (measureAnswer x)) (sym e)
 
--- an arm's number is one more than its digest's length
-pub due-size-of : (c : Choice) (t : ℕ) → c ≡ Choice.The t → (t ≡ 0 → ⊥) → t - 1 ≡ dueSize c
-due-size-of c zero e h = absurd (h refl)
-due-size-of c (suc t) e h = let same : suc t - 1 ≡ t = omega arith in same ∙ ap dueSize (sym e)
+-- the arm that is due is a digest's, or one of no size
+pub due-size-of : (c : Choice) (t : ℕ) → c ≡ Choice.The t → t - 256 ≡ dueSize c
+due-size-of c t e = ap dueSize (sym e)
+
+pub due-none : (c : Choice) (t : ℕ) → c ≡ Choice.The t → t < 256 → 0 ≡ dueSize c
+due-none c t e h = let none : 0 ≡ t - 256 = omega arith in none ∙ ap dueSize (sym e)
 
 -- ---- digests and buffers
 

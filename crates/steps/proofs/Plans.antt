@@ -1,5 +1,5 @@
 -- The steps of records, put together from those of their fields. Assumes nothing.
-use Prim.Native.Nat.{ℕ, zero, suc, _+_, _^_, _<_}
+use Prim.Native.Nat.{ℕ, _+_, _^_, _<_}
 use native.Mathlib.Omega.{arith}
 use mathlib.Core.Path.{_≡_, refl, sym, ap, _∙_}
 use mathlib.Core.Bool.{Bool, true, false, false≢true}
@@ -24,7 +24,7 @@ use Rattle.wire.proofs.Steps.{found-refused, found-same, next-found, when-found
 use Rattle.wire.proofs.Then.{onto-none, onto-onto, lay-then, shaped-then, whole-same}
 use Rattle.wire.proofs.Written.{spelt-found, cut-found, moved-found}
 use Rattle.format.specs.declared.list.ListOf.{ListOf}
-use Rattle.format.specs.Kinds.{itemLayout, mostItems}
+use Rattle.format.specs.Kinds.{digestOf, digestSize, itemLayout, mostItems}
 use Rattle.steps.specs.Steps.{Step, Number, Plain, Buffer, Items, Due, spell, spellStep, laid, spansOf, listsOf, stepLines, linesOf, dueSize, Plans}
 use Rattle.steps.proofs.Spelled.{next-step}
 
@@ -253,12 +253,11 @@ plans-due v (Choice.The t) h body a =
     }
 
 -- a digest is the arm by its length
-pub digest-arm : (c : Choice) (s : Span) → Arm c (suc (lenOf s)) (plain (lenOf s) stop) (spanPart s ∷ []) [] (Plain (dueSize c) s ∷ [])
+pub digest-arm : (c : Choice) (s : Span) → Arm c (digestOf (lenOf s)) (plain (lenOf s) stop) (spanPart s ∷ []) [] (Plain (dueSize c) s ∷ [])
 digest-arm Choice.Nothing s = record { if-chosen = λ t. absurd (false≢true t); fields = refl; lists = refl }
-digest-arm (Choice.The zero) s = record { if-chosen = λ t. absurd (let e = eqb-true (suc (lenOf s)) 0 t in omega arith); fields = refl; lists = refl }
-digest-arm (Choice.The (suc n)) s =
+digest-arm (Choice.The u) s =
     record {
-      if-chosen = λ t. let e : n ≡ lenOf s = omega (arith, eqb-true (suc (lenOf s)) (suc n) t) in rw e (plans-plain s plans-none);
+      if-chosen = λ t. let e : digestSize u ≡ lenOf s = omega (arith, eqb-true (digestOf (lenOf s)) u t) in rw e (plans-plain s plans-none);
       fields = refl;
       lists = refl;
     }

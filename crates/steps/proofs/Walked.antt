@@ -15,7 +15,7 @@ use Rattle.wire.specs.Layout.{Rule, Layout, stop, plain, number, buffer, counte
 use Rattle.wire.specs.Records.{Part, num, tag}
 use Rattle.wire.specs.Unions.{held, union, isArm}
 use Rattle.format.specs.declared.list.ListOf.{ListOf}
-use Rattle.format.specs.Kinds.{itemLayout, mostItems}
+use Rattle.format.specs.Kinds.{digestOf, itemLayout, mostItems}
 use Rattle.steps.specs.declared.walk.Walk.{Walk}
 use Rattle.steps.specs.Steps.{Step, Number, Plain, Buffer, Items, Due, dueSize, Plans}
 use Rattle.steps.specs.Walks.{Here, here, stepWalk, run, Goes, most, reach, Walks, Numbers, Dues}
@@ -94,11 +94,11 @@ module _ (src : List ℕ) where
     holds {h = h} body e is p fits = rw e (first (Due v c′ (isArm c′ h)) (omega arith) (begun e) p (plans-due v c′ h body (plans-arm (rw is (p .plans)))) fits)
 
     -- a digest
-    pub holds-digest : {k : ℕ} {z : Here} (body : ℕ → Layout) (s : Span) → us ≡ tag (suc (lenOf s)) ∷ spanPart s ∷ [] → (isArm c′ (suc (lenOf s)) ≡ true → body (suc (lenOf s)) ≡ plain (lenOf s) stop) → dueSize c < 65536
+    pub holds-digest : {k : ℕ} {z : Here} (body : ℕ → Layout) (s : Span) → us ≡ tag (digestOf (lenOf s)) ∷ spanPart s ∷ [] → (isArm c′ (digestOf (lenOf s)) ≡ true → body (digestOf (lenOf s)) ≡ plain (lenOf s) stop) → dueSize c < 65536
         → Goes (Plain (dueSize c) s ∷ []) src (here y out) z → leb 2 k ≡ true → Walks k (union c′ body v) us [] src (here x out) z
     holds-digest {k} body s e is small more fits =
         let room = leb-true 2 k fits in
-        let h = suc (lenOf s) in
+        let h = digestOf (lenOf s) in
         let last : Goes (Plain (dueSize c′) s ∷ []) src (here y out) _ = rw same at more in
         let size : dueSize c′ < 65536 = rw same at small in
         let arm = digest-arm c′ s in

@@ -1,5 +1,5 @@
 -- The steps of a record, in wire order: what each spells, and which are those of a record. No code has a step. Assumes nothing.
-use Prim.Native.Nat.{ℕ, zero, suc, _+_}
+use Prim.Native.Nat.{ℕ, _+_}
 use mathlib.Core.Bool.{Bool, true, false, cond}
 use mathlib.Core.Path.{_≡_}
 use mathlib.Core.List.{List, [], _∷_, _++_}
@@ -19,7 +19,7 @@ use Rattle.wire.specs.Writing.{cut, spelt, whole, moved, ahead, onto, lay, odd}
 use Rattle.wire.specs.Fields.{spans}
 use Rattle.wire.specs.Unwritten.{Shaped}
 use Rattle.format.specs.declared.list.ListOf.{ListOf}
-use Rattle.format.specs.Kinds.{itemLayout, mostItems}
+use Rattle.format.specs.Kinds.{digestSize, itemLayout, mostItems}
 
 pub data Step : Type 0 where
   -- a number of a width, under its field's rule
@@ -106,8 +106,7 @@ linesOf (s ∷ ss) src at = stepLines s src at ++ linesOf ss src (at + length (l
 -- how long the digest is that is due
 abbrev pub dueSize : Choice → ℕ
 dueSize Choice.Nothing = 0
-dueSize (Choice.The zero) = 0
-dueSize (Choice.The (suc n)) = n
+dueSize (Choice.The t) = digestSize t
 
 -- ---- the steps of a record
 

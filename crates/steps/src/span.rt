@@ -9,6 +9,7 @@ use crate::walk::judging;
 use crate::walk::putting;
 use crate::walk::refusing;
 use faults::Refusal;
+use format::arms::DIGEST;
 use puts::write::put_span;
 use text::line::Word;
 use wire::choice::Choice;
@@ -29,7 +30,7 @@ fn due_size(chosen: Choice) -> u16
     ensures { λ r. ⌜ r ≡ dueSize chosen ⌝ }
 {
     match chosen {
-        Choice::The(t) => if t == 0 { 0 } else { t - 1 },
+        Choice::The(t) => if t < DIGEST { 0 } else { t - DIGEST },
         Choice::Nothing => 0,
     }
 }

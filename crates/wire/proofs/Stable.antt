@@ -10,20 +10,15 @@ use lib.Dec.{leb}
 use borrow.Author.Tests.{leb-true}
 use Rattle.faults.specs.declared.Fault.the-variants.{Short}
 use Rattle.faults.specs.declared.Refusal.{Refusal}
-use Rattle.faults.specs.Faults.{short}
 use Rattle.wire.specs.Bytes.{Bytes}
 use Rattle.wire.specs.Layout.{Rule, Layout, stop, noArm, arm, number, plain, buffer, counted, lengthTo, countTo}
 use Rattle.wire.specs.Records.{Part, num, tag, span, Ans, found, refused, next, Parsed, parsed, left}
-use Rattle.wire.specs.Reading.{also, Reader, piece, field, walk, list, read}
+use Rattle.wire.specs.Reading.{also, Reader, piece, field, walk, list, read, IsShort}
 use Rattle.wire.specs.Grammar.{Token, Spells, Stands}
 use Rattle.wire.proofs.Stand.{stands-of, stands-left, stands-longer, stands-behind, bytes-front, bytes-append}
 use Rattle.wire.proofs.Steps.{found-refused, refused-same, piece-of}
 use Rattle.wire.proofs.Complete.{read-complete, spells-bytes}
 use Rattle.wire.proofs.Sound.{read-sound}
-
--- the answer is the fault Short
-abbrev pub IsShort : {A : Type 0} → Ans A → Type 0
-IsShort a = (place : ℕ) × (value : ℕ) × (a ≡ refused (short place value))
 
 -- b, the answer to more bytes than a had, is a again, unless a is Short
 abbrev pub Stays : {A : Type 0} → Ans A → Ans A → Type 0

@@ -1,5 +1,6 @@
 -- What a reader of a layout answers on any bytes: the record's parts and its end, or the first refusal in wire order. Assumes nothing.
 use Prim.Native.Nat.{ℕ, zero, suc, _+_, _-_}
+use mathlib.Core.Path.{_≡_}
 use mathlib.Core.List.{List, [], _∷_}
 use mathlib.Core.Bool.{cond}
 use lib.ListN.{length, take, drop}
@@ -68,3 +69,7 @@ readWhole l src at =
 -- where what was read ends
 abbrev pub endOf : Ans Parsed → Ans ℕ
 endOf a = next a (λ r. found (r .stops))
+
+-- the answer is the refusal Short, at some place and with some value
+abbrev pub IsShort : {A : Type 0} → Ans A → Type 0
+IsShort a = (place : ℕ) × (value : ℕ) × (a ≡ refused (short place value))

@@ -4,7 +4,7 @@ use mathlib.Core.Path.{refl}
 use Prim.Native.Nat.{ℕ}
 use Rattle.wire.specs.declared.choice.Choice.the-variants.{The}
 use Rattle.codes.specs.Codes.{sha1, shake256-192, sha256, sm3-256, sha3-256, shake256-256, sha384, sha3-384, sha512, sha3-512, shake256-512, null}
-use Rattle.codes.specs.Digests.{tpmuHaTable, tpmuHaArm, digestOf, empty}
+use Rattle.codes.specs.Digests.{tpmuHaTable, tpmuHaArm, digestOf}
 use Rattle.codes.proofs.Choices.{chosen-among, none-unmatched}
 use Rattle.codes.proofs.TpmAlgId.digest_len.Tie as tie
 
@@ -31,5 +31,5 @@ digest-len-spec = tie.close (tie.spec
     (λ c. chosen-among (λ v. The (digestOf 32)) tpmuHaTable of32 refl _ (c .match .keys3))
     (λ c. chosen-among (λ v. The (digestOf 48)) tpmuHaTable of48 refl _ (c .match .keys4))
     (λ c. chosen-among (λ v. The (digestOf 64)) tpmuHaTable of64 refl _ (c .match .keys5))
-    (λ c. chosen-among (λ v. The empty) tpmuHaTable (null ∷ []) refl _ (c .match .keys6))
+    (λ c. chosen-among (λ v. The null) tpmuHaTable (null ∷ []) refl _ (c .match .keys6))
     (λ c. none-unmatched tpmuHaTable ((null ∷ []) ∷ of64 ∷ of48 ∷ of32 ∷ of24 ∷ of20 ∷ []) refl _ (c .match .rest)))

@@ -6,7 +6,7 @@ use Prim.Native.Nat.{ℕ}
 use native.Mathlib.Omega.{arith}
 use Rattle.wire.specs.declared.choice.Choice.the-variants.{The}
 use Rattle.codes.specs.Codes.{null, rsaes, rsassa, rsapss, ecmqv}
-use Rattle.format.specs.Kinds.{tpmuAsymSchemeTable, tpmuAsymSchemeArm, empty, hash}
+use Rattle.format.specs.Kinds.{tpmuAsymSchemeTable, tpmuAsymSchemeArm, hash}
 use Rattle.codes.proofs.Choices.{chosen-among, chosen-from, none-outside}
 use Rattle.format.proofs.arms.asym_scheme_arm.Tie as tie
 
@@ -19,7 +19,7 @@ single = rsassa ∷ []
 pub asym-scheme-arm-spec : {M : Type 1} → Rattle.format.proofs.arms.asym_scheme_arm.Statement.statement M
 unfolding tpmuAsymSchemeArm
 asym-scheme-arm-spec = tie.close (tie.spec
-    (λ c. chosen-among (λ v. The empty) tpmuAsymSchemeTable empties refl _ (c .match .keys1))
+    (λ c. chosen-among (λ v. The null) tpmuAsymSchemeTable empties refl _ (c .match .keys1))
     (λ c. none-outside tpmuAsymSchemeTable (single ∷ empties ∷ []) rsapss ecmqv refl _ (c .before .match .rest) (λ h. omega arith))
     (λ c. none-outside tpmuAsymSchemeTable (single ∷ empties ∷ []) rsapss ecmqv refl _ (c .before .before .match .rest) (λ h. omega arith))
     (λ c. chosen-among (λ v. The hash) tpmuAsymSchemeTable single refl _ (c .match .keys2))

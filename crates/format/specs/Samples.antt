@@ -1,0 +1,74 @@
+-- The marked samples of the format: a kind, some bytes, and the whole answer that a reader owes to them. Assumes nothing.
+use Prim.Native.Nat.{ℕ}
+use mathlib.Core.Path.{_≡_}
+use mathlib.Core.List.{List, [], _∷_, _++_}
+use lib.ListN.{length, drop}
+use Rattle.faults.specs.Faults.{short, unknownCode, noSuchArm, tooLong, tooManyItems}
+use Rattle.wire.specs.Records.{Part, num, tag, span, Ans, found, refused, next}
+use Rattle.codes.specs.Codes.{null, aes, rsaes, ecc, sha1}
+use Rattle.format.specs.Kinds.{digestOf, readKind}
+
+-- what was read of some bytes: the record's parts, how many bytes it consumed, and its tail
+pub record Consumed : Type 0 where
+  pub parts : List Part
+  pub size : ℕ
+  pub tail : List ℕ
+
+-- a record was read, with these parts, so many bytes and this tail
+abbrev pub consumed : List Part → (size : ℕ) → (tail : List ℕ) → Ans Consumed
+consumed ps n rest = found (record { parts = ps; size = n; tail = rest })
+
+-- what a reader of the kind answers to the bytes, read from the first of them on: the tail is what stands behind the record's end
+abbrev pub answerTo : (kind : ℕ) → List ℕ → Ans Consumed
+answerTo k bs = next (readKind k bs 0) (λ r. consumed (r .parts) (r .stops) (drop (r .stops) bs))
+
+-- a sample: a kind, the bytes that the input begins with, how many bytes more there are, whichever these are, and the answer
+pub record Sample : Type 0 where
+  pub kind : ℕ
+  pub begins : List ℕ
+  pub more : ℕ
+  pub answer : Ans Consumed
+
+-- a sample that is these bytes and no more
+abbrev pub sample : (kind : ℕ) → List ℕ → Ans Consumed → Sample
+sample k bs a = record { kind = k; begins = bs; more = 0; answer = a }
+
+-- a sample that is these bytes and n more
+abbrev pub sampleWith : (kind : ℕ) → List ℕ → (n : ℕ) → Ans Consumed → Sample
+sampleWith k bs n a = record { kind = k; begins = bs; more = n; answer = a }
+
+-- the answer is as the sample says, whichever the bytes are that follow those it begins with
+abbrev pub Holds : Sample → Type 0
+Holds s = (xs : List ℕ) → length xs ≡ s .more → answerTo (s .kind) (s .begins ++ xs) ≡ s .answer
+
+-- each of some samples does so
+abbrev pub AllHold : List Sample → Type 0
+AllHold [] = Unit {0}
+AllHold (s ∷ ss) = Holds s × AllHold ss
+
+-- the marked samples, a row each
+unfoldable pub samples : List Sample
+samples =
+    sample 1 [] (refused (short 0 2))
+    ∷ sample 1 (0x00 ∷ 0x10 ∷ []) (consumed (num null ∷ tag null ∷ []) 2 [])
+    ∷ sampleWith 1 (0x00 ∷ 0x04 ∷ []) 20 (consumed (num sha1 ∷ tag (digestOf 20) ∷ span 2 20 ∷ []) 22 [])
+    ∷ sampleWith 1 (0x00 ∷ 0x04 ∷ []) 19 (refused (short 2 20))
+    ∷ sample 1 (0x00 ∷ 0x02 ∷ []) (refused (unknownCode 0 2))
+    ∷ sample 1 (0x00 ∷ 0x01 ∷ []) (refused (noSuchArm 2 1))
+    ∷ sample 2 (0x00 ∷ 0x10 ∷ 0x00 ∷ 0x80 ∷ []) (consumed (num null ∷ tag null ∷ tag null ∷ []) 2 (0x00 ∷ 0x80 ∷ []))
+    ∷ sample 2 (0x00 ∷ 0x06 ∷ 0x00 ∷ 0x80 ∷ 0x00 ∷ 0x43 ∷ []) (consumed (num aes ∷ tag aes ∷ num 0x80 ∷ tag aes ∷ num 0x43 ∷ []) 6 [])
+    ∷ sample 2 (0x00 ∷ 0x06 ∷ 0x00 ∷ 0x80 ∷ []) (refused (short 4 2))
+    ∷ sample 6 (0x00 ∷ 0x15 ∷ []) (consumed (num rsaes ∷ tag null ∷ []) 2 [])
+    ∷ sample 6 (0x00 ∷ 0x17 ∷ []) (refused (short 2 2))
+    ∷ sample 11
+    (0x00 ∷ 0x23 ∷ 0x00 ∷ 0x0B ∷ 0x00 ∷ 0x00 ∷ 0x00 ∷ 0x00 ∷ 0x00 ∷ 0x00 ∷ 0x00 ∷ 0x10 ∷ 0x00 ∷ 0x10 ∷ 0x00 ∷ 0x03 ∷ 0x00 ∷ 0x10
+    ∷ 0x00 ∷ 0x01 ∷ 0xAA ∷ 0x00 ∷ 0x01 ∷ 0xBB ∷ [])
+    (consumed
+    (num ecc ∷ num 0x0B ∷ num 0 ∷ span 10 0 ∷ tag ecc ∷ num null ∷ tag null ∷ tag null ∷ num null ∷ tag null ∷ num 3 ∷ num null ∷ tag null
+    ∷ tag ecc ∷ span 20 1 ∷ span 23 1 ∷ [])
+    24
+    [])
+    ∷ sample 14 (0x00 ∷ 0x00 ∷ 0x00 ∷ 0x11 ∷ []) (refused (tooManyItems 0 17))
+    ∷ sample 14 (0x00 ∷ 0x00 ∷ 0x00 ∷ 0x10 ∷ []) (refused (short 4 2))
+    ∷ sample 14 (0x00 ∷ 0x00 ∷ 0x00 ∷ 0x01 ∷ 0x00 ∷ 0x0B ∷ 0x05 ∷ []) (refused (tooLong 6 5))
+    ∷ []

@@ -1,0 +1,16 @@
+-- The greatest size of a record of each kind. Assumes nothing.
+use Prim.Native.Nat.{ℕ}
+use mathlib.Core.List.{List, [], _∷_}
+use Rattle.wire.specs.Layout.{Layout}
+use Rattle.wire.specs.Sizes.{Greatest}
+
+-- the greatest sizes in bytes, kinds 1 to 14
+unfoldable pub greatest : List ℕ
+greatest = 66 ∷ 6 ∷ 4 ∷ 6 ∷ 4 ∷ 4 ∷ 4 ∷ 4 ∷ 18 ∷ 518 ∷ 604 ∷ 392 ∷ 2287 ∷ 116 ∷ []
+
+-- there are as many sizes as layouts, and each is the greatest of its layout
+abbrev pub AllGreatest : List Layout → List ℕ → Type 0
+AllGreatest [] [] = Unit {0}
+AllGreatest [] (m ∷ ms) = ⊥
+AllGreatest (l ∷ ls) [] = ⊥
+AllGreatest (l ∷ ls) (m ∷ ms) = Greatest l m × AllGreatest ls ms
