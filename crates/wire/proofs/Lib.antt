@@ -16,6 +16,7 @@ pub mod Split
 pub mod Unions
 pub mod Begun
 pub mod Sizes
+pub mod Ours
 pub mod Later
 pub mod Order
 pub mod Once
