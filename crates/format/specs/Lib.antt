@@ -1,1 +1,3 @@
 pub mod Kinds
+pub mod Editions
+pub mod EditionKinds

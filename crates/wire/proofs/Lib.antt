@@ -19,6 +19,7 @@ pub mod Sizes
 pub mod Ours
 pub mod Later
 pub mod Order
+pub mod Rows
 pub mod Once
 pub mod Answers
 pub mod Leaves
