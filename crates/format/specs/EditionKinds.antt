@@ -5,7 +5,7 @@ use mathlib.Core.List.{List, [], _∷_, _++_}
 use lib.ListN.{getD}
 use Rattle.wire.specs.Layout.{Rule, listed, Layout, stop, noArm, number, buffer, counted, one, free, _then_}
 use Rattle.wire.specs.Unions.{Row, row, own, armOf, bodyOf, union}
-use Rattle.codes.specs.Codes.{yesNo, magic, rsa, hmac, aes, mgf1, keyedHash, xor, null, sm4, rsassa, rsaes, rsapss, oaep, ecdsa, ecdh, ecdaa, sm2, ecschnorr, ecmqv, kdf1-sp800-56a, kdf2, kdf1-sp800-108, ecc, symCipher, camellia, attestNv, attestCommandAudit, attestSessionAudit, attestCertify, attestQuote, attestTime, attestCreation, attestNvDigest}
+use Rattle.codes.specs.Codes.{magic, rsa, hmac, aes, mgf1, keyedHash, xor, null, sm4, rsassa, rsaes, rsapss, oaep, ecdsa, ecdh, ecdaa, sm2, ecschnorr, ecmqv, kdf1-sp800-56a, kdf2, kdf1-sp800-108, ecc, symCipher, camellia, attestNv, attestCommandAudit, attestSessionAudit, attestCertify, attestQuote, attestTime, attestCreation, attestNvDigest}
 use Rattle.format.specs.declared.list.ListOf.the-variants.{PcrSelection}
 use Rattle.format.specs.Kinds.{empty, hash, hmacHash, mostItems, tpmuHaTable, tpmuPublicIdTable, tpmuSensitiveCompositeTable, digest, publicKeyRsa, eccParameter, name, qualifying, tpmsClockInfo, tpmsCertifyInfo, tpmsCreationInfo, tpmsSessionAuditInfo, tpmsTimeAttestInfo, tpmsNvCertifyInfo, tpmsNvDigestCertifyInfo}
 use Rattle.format.specs.Editions.{Edition}

@@ -1,6 +1,6 @@
 -- A record of a later edition whose codes and arms are all ours is a record of ours, and is read; any other is refused at its first code
 -- or arm that is not. Assumes nothing.
-use Prim.Native.Nat.{ℕ, suc, _+_, _≤_, _<_}
+use Prim.Native.Nat.{ℕ, _+_, _≤_, _<_}
 use native.Mathlib.Omega.{arith}
 use mathlib.Core.Path.{_≡_, refl, sym, ap, _∙_}
 use mathlib.Core.Logic.{_⊎_, inl, inr}
@@ -141,6 +141,14 @@ not-ours-is-refused {l} {bs = bs} {src} {at} x d s foreign = by (ours-or-strange
     by : Ours x d ⊎ Strange (λ f. Refuses src l at f) at (at + length bs) → (f : Refusal) × Foreign l src at (at + length bs) f × (read l src at ≡ refused f)
     by (inl o) = absurd (foreign o)
     by (inr (f, newer, first)) = (f, record { newer = newer; first = first }, refuses-read first)
+
+-- a record that our layout spells too is all ours
+pub legal-is-ours : {l l′ : Layout} {ts us : List Token} {bs : List ℕ} (x : Later l l′) (d : Spells l′ ts bs) → Spells l us bs → Ours x d
+legal-is-ours {l} {bs = bs} x d c = by (ours-or-strange x d (stands-start bs []))
+  where
+    by : Ours x d ⊎ Strange (λ f. Refuses (bs ++ []) l 0 f) 0 (0 + length bs) → Ours x d
+    by (inl o) = o
+    by (inr (f, newer, first)) = absurd (found-refused (sym (refuses-read first) ∙ read-complete c (stands-start bs [])))
 
 -- whether a record is all ours can be told
 pub ours-or-not : {l l′ : Layout} {ts : List Token} {bs : List ℕ} (x : Later l l′) (d : Spells l′ ts bs) → Ours x d ⊎ (Ours x d → ⊥)
