@@ -3,3 +3,5 @@ pub mod Lists
 pub mod Greatest
 pub mod Numbered
 pub mod Samples
+pub mod Editions
+pub mod NewEdition

@@ -1,3 +1,5 @@
 pub mod Kinds
+pub mod Editions
+pub mod EditionKinds
 pub mod Sizes
 pub mod Samples

@@ -11,9 +11,9 @@ use Rattle.wire.specs.Bytes.{Bytes}
 use Rattle.wire.specs.Layout.{Layout}
 use Rattle.wire.specs.Records.{found, refused, Parsed, parsed}
 use Rattle.wire.specs.Reading.{read, endOf, IsShort}
-use Rattle.wire.specs.Grammar.{Token, Spells, Starts, placed, shown}
+use Rattle.wire.specs.Grammar.{Token, Spells, Stands, Starts, placed, shown}
 use Rattle.wire.specs.Refusals.{Refuses}
-use Rattle.wire.specs.Editions.{Later, Newer, Foreign}
+use Rattle.wire.specs.Editions.{Later, Ours, Newer, Foreign}
 use Rattle.wire.proofs.Stand.{stands-start}
 use Rattle.wire.proofs.Steps.{next-found, found-same}
 use Rattle.wire.proofs.Complete.{read-complete, placed-shows}
@@ -21,7 +21,7 @@ use Rattle.wire.proofs.Sound.{read-sound}
 use Rattle.wire.proofs.Prefix.{starts-read, refused-none, none-refused, prefix-free, one-spelling}
 use Rattle.wire.proofs.Refused.{refuses-read, read-refuses}
 use Rattle.wire.proofs.Stable.{cut-short}
-use Rattle.wire.proofs.Later.{later-read, later-cut}
+use Rattle.wire.proofs.Ours as ours
 use Rattle.format.specs.Kinds.{isKind, layoutOf, readKind}
 use Rattle.format.proofs.Numbered.{of-kind}
 
@@ -65,16 +65,25 @@ module _ (k : ℕ) where
 
   -- ---- later editions
 
-  -- a legal record of a later edition, with anything behind it, is read the same and stops where it stops, or is refused at the first
-  -- code or arm that is not ours
-  pub later-edition : {l′ : Layout} {ts : List Token} {bs : List ℕ} → Later (layoutOf k) l′ → Spells l′ ts bs → (tail : List ℕ)
-      → (read (layoutOf k) (bs ++ tail) 0 ≡ read l′ (bs ++ tail) 0) ⊎ ((f : Refusal) × Foreign (layoutOf k) (bs ++ tail) 0 f × (read (layoutOf k) (bs ++ tail) 0 ≡ refused f))
-  later-edition {bs = bs} x d tail = later-read x d (stands-start bs tail)
+  -- a legal record of a later edition whose codes and arms are all ours is read, to its end, and shows what it says, whatever stands behind
+  pub ours-is-read : {l′ : Layout} {ts : List Token} {bs : List ℕ} (x : Later (layoutOf k) l′) (d : Spells l′ ts bs) (tail : List ℕ) → Ours x d
+      → (read (layoutOf k) (bs ++ tail) 0 ≡ parsed (placed d 0) (0 + length bs)) × (shown (bs ++ tail) (placed d 0) ≡ ts)
+  ours-is-read {bs = bs} x d tail all = (ours.ours-is-read x d (stands-start bs tail) all, placed-shows d (stands-start bs tail))
 
-  -- and one that is cut is refused
+  -- any other is refused at the first code or arm, in wire order, that is not ours
+  pub not-ours-is-refused : {l′ : Layout} {ts : List Token} {bs : List ℕ} (x : Later (layoutOf k) l′) (d : Spells l′ ts bs) (tail : List ℕ) → (Ours x d → ⊥)
+      → (f : Refusal) × Foreign (layoutOf k) (bs ++ tail) 0 (0 + length bs) f × (read (layoutOf k) (bs ++ tail) 0 ≡ refused f)
+  not-ours-is-refused {bs = bs} x d tail foreign = ours.not-ours-is-refused x d (stands-start bs tail) foreign
+
+  -- one that is all ours and is cut is Short
+  pub cut-ours-is-short : {l′ : Layout} {ts : List Token} (before xs : List ℕ) (y : ℕ) (ys : List ℕ) → Bytes before → (x : Later (layoutOf k) l′) (d : Spells l′ ts (xs ++ (y ∷ ys))) → Ours x d
+      → IsShort (read (layoutOf k) (before ++ xs) (length before))
+  cut-ours-is-short = ours.cut-ours-is-short
+
+  -- and any that is cut is refused
   pub later-edition-cut : {l′ : Layout} {ts : List Token} (before xs : List ℕ) (y : ℕ) (ys : List ℕ) → Bytes before → Later (layoutOf k) l′ → Spells l′ ts (xs ++ (y ∷ ys))
       → (f : Refusal) × (read (layoutOf k) (before ++ xs) (length before) ≡ refused f) × ((f .fault ≡ Short) ⊎ Newer f)
-  later-edition-cut = later-cut
+  later-edition-cut = ours.later-cut
 
   -- ---- by number: what `record_end` answers
 
@@ -87,3 +96,15 @@ module _ (k : ℕ) where
   -- and where one ends, that end is answered
   pub legal-has-end : {src : List ℕ} {at e : ℕ} → isKind k ≡ true → Starts (layoutOf k) src at e → endOf (readKind k src at) ≡ found e
   legal-has-end {src} {at} h d = sym (ap endOf (of-kind k src at refl h)) ∙ ap endOf (starts-read d)
+
+  -- where a legal record of a later edition stands: if it is all ours, its end is answered
+  pub ours-has-end : {l′ : Layout} {ts : List Token} {bs src : List ℕ} {at : ℕ} → isKind k ≡ true → (x : Later (layoutOf k) l′) (d : Spells l′ ts bs) → Stands src at bs → Ours x d
+      → endOf (readKind k src at) ≡ found (at + length bs)
+  ours-has-end {src = src} {at} h x d stands all = sym (ap endOf (of-kind k src at refl h)) ∙ ap endOf (ours.ours-is-read x d stands all)
+
+  -- and any other is refused
+  pub not-ours-has-no-end : {l′ : Layout} {ts : List Token} {bs src : List ℕ} {at : ℕ} → isKind k ≡ true → (x : Later (layoutOf k) l′) (d : Spells l′ ts bs) → Stands src at bs → (Ours x d → ⊥)
+      → (f : Refusal) × Foreign (layoutOf k) src at (at + length bs) f × (endOf (readKind k src at) ≡ refused f)
+  not-ours-has-no-end {src = src} {at} h x d stands foreign =
+      let (f, g, p) = ours.not-ours-is-refused x d stands foreign in
+      (f, g, sym (ap endOf (of-kind k src at refl h)) ∙ ap endOf p)

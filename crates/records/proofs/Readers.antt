@@ -3,7 +3,7 @@
 use Prim.Native.Nat.{ℕ, _+_, _≤_, _<_}
 use borrow.Author.Tests.{eq-eqb}
 use mathlib.Core.Path.{_≡_, refl, sym, ap, _∙_}
-use mathlib.Core.Logic.{_⊎_, inl, inr}
+use mathlib.Core.Logic.{_⊎_}
 use mathlib.Core.Bool.{true, false}
 use mathlib.Core.List.{List, _∷_, _++_}
 use lib.ListN.{length, drop}
@@ -21,11 +21,10 @@ use Rattle.wire.specs.Reading.{read, readWhole, endOf, IsShort}
 use Rattle.wire.specs.Grammar.{Token, Spells, Stands, Starts, placed, shown}
 use Rattle.wire.specs.Refusals.{Refuses, RefusesWhole, first-fault, left-over}
 use Rattle.wire.specs.Unions.{isArm}
-use Rattle.wire.specs.Editions.{Later, Newer, Foreign}
+use Rattle.wire.specs.Editions.{Later, Ours, Newer, Foreign}
 use Rattle.wire.proofs.Complete.{read-complete, placed-shows}
 use Rattle.wire.proofs.Prefix as prefix
-use Rattle.wire.proofs.Later.{Verdict, later}
-use Rattle.wire.proofs.Refused.{refuses-read}
+use Rattle.wire.proofs.Ours as ours
 use Rattle.wire.proofs.Answers.{measure-answer-once}
 use Rattle.wire.proofs.Whole.{whole-is-read}
 use Rattle.wire.proofs.WholeExactly as whole
@@ -87,16 +86,16 @@ module _ (k : ℕ) (src : List ℕ) (at : ℕ) {a : Ans Parsed} (told : a ≡ re
   pub first-is-refusal : {f : Refusal} → Refuses src (layoutOf k) at f → a ≡ refused f
   first-is-refusal faulty = told ∙ promises.first-is-refusal k faulty
 
-  -- where a legal record of a later edition starts: if its codes and arms are all ours, so that it is a record of ours too, it is
-  -- accepted with its fields and ends where it ends; any other is refused at the first code or arm that is not ours
-  pub later-edition : {l′ : Layout} {ts : List Token} {bs : List ℕ} → Later (layoutOf k) l′ → (d : Spells l′ ts bs) → Stands src at bs
-      → (Spells (layoutOf k) ts bs × (a ≡ parsed (placed d at) (at + length bs))) ⊎ ((f : Refusal) × Foreign (layoutOf k) src at f × (a ≡ refused f))
-  later-edition {ts = ts} {bs = bs} x d stands = by (later x d stands)
-    where
-      by : Verdict (layoutOf k) d src at
-          → (Spells (layoutOf k) ts bs × (a ≡ parsed (placed d at) (at + length bs))) ⊎ ((f : Refusal) × Foreign (layoutOf k) src at f × (a ≡ refused f))
-      by (inl (c, same)) = inl (c, told ∙ read-complete c stands ∙ ap (λ ps. parsed ps (at + length bs)) (same at))
-      by (inr (f, newer, first)) = inr (f, record { newer = newer; first = first }, told ∙ refuses-read first)
+  -- where a legal record of a later edition starts: if its codes and arms are all ours, it is accepted with its fields and ends where it
+  -- ends, whatever stands behind
+  pub ours-is-read : {l′ : Layout} {ts : List Token} {bs : List ℕ} (x : Later (layoutOf k) l′) (d : Spells l′ ts bs) → Stands src at bs → Ours x d
+      → (a ≡ parsed (placed d at) (at + length bs)) × (shown src (placed d at) ≡ ts)
+  ours-is-read x d stands all = (told ∙ ours.ours-is-read x d stands all, placed-shows d stands)
+
+  -- any other is refused at the first code or arm, in wire order, that is not ours
+  pub not-ours-is-refused : {l′ : Layout} {ts : List Token} {bs : List ℕ} (x : Later (layoutOf k) l′) (d : Spells l′ ts bs) → Stands src at bs → (Ours x d → ⊥)
+      → (f : Refusal) × Foreign (layoutOf k) src at (at + length bs) f × (a ≡ refused f)
+  not-ours-is-refused x d stands foreign = let (f, g, p) = ours.not-ours-is-refused x d stands foreign in (f, g, told ∙ p)
 
 -- ---- a record that is cut
 
@@ -105,7 +104,11 @@ module _ (k : ℕ) (before xs : List ℕ) (y : ℕ) (ys : List ℕ) {a : Ans Par
   pub cut-is-short : {ts : List Token} → Bytes before → Spells (layoutOf k) ts (xs ++ (y ∷ ys)) → IsShort a
   cut-is-short b d = let (place, needed, p) = promises.cut-is-short k before xs y ys b d in (place, needed, told ∙ p)
 
-  -- that of a later edition's is Short, or refused for a code or an arm that is not ours
+  -- that of a later edition's record that is all ours is Short too
+  pub cut-ours-is-short : {l′ : Layout} {ts : List Token} → Bytes before → (x : Later (layoutOf k) l′) (d : Spells l′ ts (xs ++ (y ∷ ys))) → Ours x d → IsShort a
+  cut-ours-is-short b x d all = let (place, needed, p) = promises.cut-ours-is-short k before xs y ys b x d all in (place, needed, told ∙ p)
+
+  -- that of any other is Short, or refused for a code or an arm that is not ours
   pub later-edition-cut : {l′ : Layout} {ts : List Token} → Bytes before → Later (layoutOf k) l′ → Spells l′ ts (xs ++ (y ∷ ys))
       → (f : Refusal) × (a ≡ refused f) × ((f .fault ≡ Short) ⊎ Newer f)
   later-edition-cut b x d = let (f, p, why) = promises.later-edition-cut k before xs y ys b x d in (f, told ∙ p, why)
@@ -139,6 +142,20 @@ module _ (k : ℕ) (src : List ℕ) (at : ℕ) {a : Ans Parsed} (told : a ≡ re
   pub whole-refusal-says-why : {f : Refusal} → Bytes src → a ≡ refused f → RefusesWhole src (layoutOf k) at f
   whole-refusal-says-why {f} b fails = whole.whole-refusal-says-why (layoutOf k) src at f b (sym told ∙ fails)
 
+  -- a legal record of a later edition that is all that stands there is accepted, if it is all ours
+  pub ours-is-read-whole : {l′ : Layout} {ts : List Token} {bs : List ℕ} (x : Later (layoutOf k) l′) (d : Spells l′ ts bs) → drop at src ≡ bs → Ours x d → a ≡ parsed (placed d at) (at + length bs)
+  ours-is-read-whole x d alone all = told ∙ ours.ours-is-read-whole src at x d alone all
+
+  -- with bytes behind it, it is Trailing
+  pub ours-with-a-tail-is-trailing : {l′ : Layout} {ts : List Token} {bs : List ℕ} (x : Later (layoutOf k) l′) (d : Spells l′ ts bs) → Stands src at bs → at + length bs < length src → Ours x d
+      → a ≡ refused (trailing (at + length bs) (left src (at + length bs)))
+  ours-with-a-tail-is-trailing x d stands more all = told ∙ ours.ours-with-a-tail-is-trailing x d stands more all
+
+  -- and any other is refused at the first code or arm that is not ours
+  pub not-ours-is-refused-whole : {l′ : Layout} {ts : List Token} {bs : List ℕ} (x : Later (layoutOf k) l′) (d : Spells l′ ts bs) → Stands src at bs → (Ours x d → ⊥)
+      → (f : Refusal) × Foreign (layoutOf k) src at (at + length bs) f × (a ≡ refused f)
+  not-ours-is-refused-whole x d stands foreign = let (f, g, p) = ours.not-ours-is-refused-whole x d stands foreign in (f, g, told ∙ p)
+
 -- ---- where a record ends, by its kind's number
 
 module _ (k : ℕ) (src : List ℕ) (at : ℕ) {r : Measure} (told : measureAnswer r ≡ endOf (readKind k src at)) where
@@ -149,6 +166,17 @@ module _ (k : ℕ) (src : List ℕ) (at : ℕ) {r : Measure} (told : measureAnsw
   -- where one ends, that end is answered
   pub legal-has-end : {e : ℕ} → isKind k ≡ true → Starts (layoutOf k) src at e → r ≡ Measure.Size e
   legal-has-end {e} some d = measure-answer-once r (Measure.Size e) (told ∙ promises.legal-has-end k some d)
+
+  -- where a legal record of a later edition ends, that end is answered, if it is all ours
+  pub ours-has-end : {l′ : Layout} {ts : List Token} {bs : List ℕ} → isKind k ≡ true → (x : Later (layoutOf k) l′) (d : Spells l′ ts bs) → Stands src at bs → Ours x d → r ≡ Measure.Size (at + length bs)
+  ours-has-end {bs = bs} some x d stands all = measure-answer-once r (Measure.Size (at + length bs)) (told ∙ promises.ours-has-end k some x d stands all)
+
+  -- any other is refused at the first code or arm that is not ours
+  pub not-ours-has-no-end : {l′ : Layout} {ts : List Token} {bs : List ℕ} → isKind k ≡ true → (x : Later (layoutOf k) l′) (d : Spells l′ ts bs) → Stands src at bs → (Ours x d → ⊥)
+      → (f : Refusal) × Foreign (layoutOf k) src at (at + length bs) f × (r ≡ Measure.No f)
+  not-ours-has-no-end some x d stands foreign =
+      let (f, g, p) = promises.not-ours-has-no-end k some x d stands foreign in
+      (f, g, measure-answer-once r (Measure.No f) (told ∙ p))
 
   -- and a number that is no kind is refused as such
   pub no-kind-has-no-end : isKind k ≡ false → r ≡ Measure.No (badKind k)

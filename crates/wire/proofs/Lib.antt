@@ -17,8 +17,10 @@ pub mod Split
 pub mod Unions
 pub mod Begun
 pub mod Sizes
+pub mod Ours
 pub mod Later
 pub mod Order
+pub mod Rows
 pub mod Once
 pub mod Answers
 pub mod Leaves

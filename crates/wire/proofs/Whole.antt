@@ -7,6 +7,7 @@ use mathlib.Core.List.{List, [], _++_, append-nil}
 use lib.ListN.{length}
 use lib.Dec.{leb}
 use borrow.Author.Tests.{le-leb, leb-true}
+use Rattle.faults.specs.declared.Refusal.{Refusal}
 use Rattle.faults.specs.Faults.{trailing}
 use Rattle.wire.specs.Layout.{Layout}
 use Rattle.wire.specs.Records.{found, refused, Parsed, parsed, left}
@@ -36,6 +37,11 @@ pub read-is-trailing : (l : Layout) (src : List ℕ) (at : ℕ) {r : Parsed} →
     → readWhole l src at ≡ refused (trailing (r .stops) (left src (r .stops)))
 unfolding readWhole nothingBehind
 read-is-trailing l src at {r} p h = rw (p, h)
+
+-- what is refused is refused whole, in the same way
+pub refused-is-refused-whole : (l : Layout) (src : List ℕ) (at : ℕ) {f : Refusal} → read l src at ≡ refused f → readWhole l src at ≡ refused f
+unfolding readWhole
+refused-is-refused-whole l src at p = rw p
 
 -- a spelled record is read whole, behind any bytes
 pub spelled-is-whole : {l : Layout} {ts : List Token} {bs : List ℕ} (before : List ℕ) (d : Spells l ts bs)

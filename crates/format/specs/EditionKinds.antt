@@ -1,0 +1,297 @@
+-- The fourteen kinds of an edition: all layouts made from its lists and tables, line for line as Kinds has them. Layouts with neither a code
+-- of a list nor a union are those of Kinds. Assumes nothing.
+use Prim.Native.Nat.{ℕ, zero, suc}
+use mathlib.Core.List.{List, [], _∷_, _++_}
+use lib.ListN.{getD}
+use Rattle.wire.specs.Layout.{Rule, listed, Layout, stop, noArm, number, buffer, counted, one, free, _then_}
+use Rattle.wire.specs.Unions.{Row, row, own, armOf, bodyOf, union}
+use Rattle.codes.specs.Codes.{magic, rsa, hmac, aes, mgf1, keyedHash, xor, null, sm4, rsassa, rsaes, rsapss, oaep, ecdsa, ecdh, ecdaa, sm2, ecschnorr, ecmqv, kdf1-sp800-56a, kdf2, kdf1-sp800-108, ecc, symCipher, camellia, attestNv, attestCommandAudit, attestSessionAudit, attestCertify, attestQuote, attestTime, attestCreation, attestNvDigest}
+use Rattle.format.specs.declared.list.ListOf.the-variants.{PcrSelection}
+use Rattle.format.specs.Kinds.{hash, mostItems, tpmuHaTable, tpmuPublicIdTable, tpmuSensitiveCompositeTable, digest, publicKeyRsa, eccParameter, name, qualifying, tpmsClockInfo, tpmsCertifyInfo, tpmsCreationInfo, tpmsSessionAuditInfo, tpmsTimeAttestInfo, tpmsNvCertifyInfo, tpmsNvDigestCertifyInfo}
+use Rattle.format.specs.Editions.{Edition}
+
+-- the union of a table: what its selector v chooses
+abbrev pub unionOf : List Row → (v : ℕ) → Layout
+unionOf rs v = union (armOf rs v) (λ t. bodyOf rs t) v
+
+module _ (e : Edition) where
+  -- ---- what a field of each list takes
+
+  abbrev pub algIn : Rule
+  algIn = listed (λ n. e .isAlgorithm n)
+
+  abbrev pub curveIn : Rule
+  curveIn = listed (λ n. e .isCurve n)
+
+  abbrev pub attestationIn : Rule
+  attestationIn = listed (λ n. e .isAttestation n)
+
+  -- ---- digests, ciphers and schemes: kinds 1 to 8
+
+  -- TPMS_SCHEME_HASH: a hash code
+  unfoldable pub tpmsSchemeHashIn : Layout
+  tpmsSchemeHashIn = one 2 algIn
+
+  -- TPMS_SCHEME_XOR: a hash code and a KDF code
+  unfoldable pub tpmsSchemeXorIn : Layout
+  tpmsSchemeXorIn = number 2 algIn (λ hashAlg. one 2 algIn)
+
+  -- TPMU_HA: a plain digest as long as its algorithm has it, or nothing; its table is with the codes
+  unfoldable pub tpmuHaIn : ℕ → Layout
+  tpmuHaIn v = unionOf (tpmuHaTable ++ e .tpmuHa) v
+
+  -- TPMU_ASYM_SCHEME: a hash code, or nothing
+  abbrev pub tpmuAsymSchemeTableIn : List Row
+  tpmuAsymSchemeTableIn =
+      row rsaes null stop
+      ∷ own null stop
+      ∷ row rsassa hash tpmsSchemeHashIn
+      ∷ row rsapss hash tpmsSchemeHashIn
+      ∷ row ecdsa hash tpmsSchemeHashIn
+      ∷ row ecdaa hash tpmsSchemeHashIn
+      ∷ row sm2 hash tpmsSchemeHashIn
+      ∷ row ecschnorr hash tpmsSchemeHashIn
+      ∷ row oaep hash tpmsSchemeHashIn
+      ∷ row ecdh hash tpmsSchemeHashIn
+      ∷ row ecmqv hash tpmsSchemeHashIn
+      ∷ e .tpmuAsymScheme
+
+  unfoldable pub tpmuAsymSchemeIn : ℕ → Layout
+  tpmuAsymSchemeIn v = unionOf tpmuAsymSchemeTableIn v
+
+  -- TPMU_SIG_SCHEME: a hash code, or nothing; the Hmac arm is apart
+  abbrev pub tpmuSigSchemeTableIn : List Row
+  tpmuSigSchemeTableIn =
+      own hmac tpmsSchemeHashIn
+      ∷ row rsassa hash tpmsSchemeHashIn
+      ∷ row rsapss hash tpmsSchemeHashIn
+      ∷ row ecdsa hash tpmsSchemeHashIn
+      ∷ row ecdaa hash tpmsSchemeHashIn
+      ∷ row sm2 hash tpmsSchemeHashIn
+      ∷ row ecschnorr hash tpmsSchemeHashIn
+      ∷ own null stop
+      ∷ e .tpmuSigScheme
+
+  unfoldable pub tpmuSigSchemeIn : ℕ → Layout
+  tpmuSigSchemeIn v = unionOf tpmuSigSchemeTableIn v
+
+  -- TPMU_SCHEME_KEYEDHASH
+  abbrev pub tpmuKeyedhashSchemeTableIn : List Row
+  tpmuKeyedhashSchemeTableIn =
+      own hmac tpmsSchemeHashIn
+      ∷ own xor tpmsSchemeXorIn
+      ∷ own null stop
+      ∷ e .tpmuKeyedhashScheme
+
+  unfoldable pub tpmuKeyedhashSchemeIn : ℕ → Layout
+  tpmuKeyedhashSchemeIn v = unionOf tpmuKeyedhashSchemeTableIn v
+
+  -- TPMU_KDF_SCHEME
+  abbrev pub tpmuKdfSchemeTableIn : List Row
+  tpmuKdfSchemeTableIn =
+      own mgf1 tpmsSchemeHashIn
+      ∷ own kdf1-sp800-56a tpmsSchemeHashIn
+      ∷ own kdf2 tpmsSchemeHashIn
+      ∷ own kdf1-sp800-108 tpmsSchemeHashIn
+      ∷ own null stop
+      ∷ e .tpmuKdfScheme
+
+  unfoldable pub tpmuKdfSchemeIn : ℕ → Layout
+  tpmuKdfSchemeIn v = unionOf tpmuKdfSchemeTableIn v
+
+  -- TPMU_SYM_KEY_BITS: key bits, which are no count of bytes; of XOR a hash code
+  abbrev pub tpmuSymKeyBitsTableIn : List Row
+  tpmuSymKeyBitsTableIn =
+      own aes (one 2 free)
+      ∷ own sm4 (one 2 free)
+      ∷ own camellia (one 2 free)
+      ∷ own xor (one 2 algIn)
+      ∷ own null stop
+      ∷ e .tpmuSymKeyBits
+
+  unfoldable pub tpmuSymKeyBitsIn : ℕ → Layout
+  tpmuSymKeyBitsIn v = unionOf tpmuSymKeyBitsTableIn v
+
+  -- TPMU_SYM_MODE: a mode; XOR has one too, as in the crate
+  abbrev pub tpmuSymModeTableIn : List Row
+  tpmuSymModeTableIn =
+      own aes (one 2 algIn)
+      ∷ own sm4 (one 2 algIn)
+      ∷ own camellia (one 2 algIn)
+      ∷ own xor (one 2 algIn)
+      ∷ own null stop
+      ∷ e .tpmuSymMode
+
+  unfoldable pub tpmuSymModeIn : ℕ → Layout
+  tpmuSymModeIn v = unionOf tpmuSymModeTableIn v
+
+  -- ---- kinds 1 to 8
+
+  -- kind 1, TPMT_HA
+  unfoldable pub tpmtHaIn : Layout
+  tpmtHaIn = number 2 algIn (λ hashAlg. tpmuHaIn hashAlg)
+
+  -- kind 2, TPMT_SYM_DEF: a Null cipher has neither key bits nor mode
+  unfoldable pub tpmtSymDefIn : Layout
+  tpmtSymDefIn = number 2 algIn (λ algorithm. tpmuSymKeyBitsIn algorithm then tpmuSymModeIn algorithm)
+
+  -- kind 3, TPMT_KDF_SCHEME
+  unfoldable pub tpmtKdfSchemeIn : Layout
+  tpmtKdfSchemeIn = number 2 algIn (λ scheme. tpmuKdfSchemeIn scheme)
+
+  -- kind 4, TPMT_KEYEDHASH_SCHEME
+  unfoldable pub tpmtKeyedhashSchemeIn : Layout
+  tpmtKeyedhashSchemeIn = number 2 algIn (λ scheme. tpmuKeyedhashSchemeIn scheme)
+
+  -- kind 5, TPMT_SIG_SCHEME
+  unfoldable pub tpmtSigSchemeIn : Layout
+  tpmtSigSchemeIn = number 2 algIn (λ scheme. tpmuSigSchemeIn scheme)
+
+  -- kinds 6, 7 and 8, TPMT_RSA_SCHEME, TPMT_ECC_SCHEME and TPMT_RSA_DECRYPT
+  unfoldable pub tpmtAsymSchemeIn : Layout
+  tpmtAsymSchemeIn = number 2 algIn (λ scheme. tpmuAsymSchemeIn scheme)
+
+  -- ---- keys
+
+  -- TPMS_RSA_PARMS
+  unfoldable pub tpmsRsaParmsIn : Layout
+  tpmsRsaParmsIn =
+      tpmtSymDefIn
+      then tpmtAsymSchemeIn
+      then number 2 free (λ keyBits. number 4 free (λ exponent. stop))
+
+  -- TPMS_ECC_PARMS
+  unfoldable pub tpmsEccParmsIn : Layout
+  tpmsEccParmsIn =
+      tpmtSymDefIn
+      then tpmtAsymSchemeIn
+      then number 2 curveIn (λ curveID. tpmtKdfSchemeIn)
+
+  -- TPMU_PUBLIC_PARMS
+  abbrev pub tpmuPublicParmsTableIn : List Row
+  tpmuPublicParmsTableIn =
+      own keyedHash tpmtKeyedhashSchemeIn
+      ∷ own symCipher tpmtSymDefIn
+      ∷ own rsa tpmsRsaParmsIn
+      ∷ own ecc tpmsEccParmsIn
+      ∷ own null stop
+      ∷ e .tpmuPublicParms
+
+  unfoldable pub tpmuPublicParmsIn : ℕ → Layout
+  tpmuPublicParmsIn v = unionOf tpmuPublicParmsTableIn v
+
+  -- TPMU_PUBLIC_ID
+  unfoldable pub tpmuPublicIdIn : ℕ → Layout
+  tpmuPublicIdIn v = unionOf (tpmuPublicIdTable ++ e .tpmuPublicId) v
+
+  -- TPMU_SENSITIVE_COMPOSITE: no Null
+  unfoldable pub tpmuSensitiveCompositeIn : ℕ → Layout
+  tpmuSensitiveCompositeIn v = unionOf (tpmuSensitiveCompositeTable ++ e .tpmuSensitiveComposite) v
+
+  -- TPMS_SIGNATURE_RSA: hash, sig
+  unfoldable pub tpmsSignatureRsaIn : Layout
+  tpmsSignatureRsaIn = number 2 algIn (λ hashAlg. publicKeyRsa stop)
+
+  -- TPMS_SIGNATURE_ECC: hash, r, s
+  unfoldable pub tpmsSignatureEccIn : Layout
+  tpmsSignatureEccIn = number 2 algIn (λ hashAlg. eccParameter (eccParameter stop))
+
+  -- TPMU_SIGNATURE
+  abbrev pub tpmuSignatureTableIn : List Row
+  tpmuSignatureTableIn =
+      own rsassa tpmsSignatureRsaIn
+      ∷ own rsapss tpmsSignatureRsaIn
+      ∷ own ecdsa tpmsSignatureEccIn
+      ∷ own ecdaa tpmsSignatureEccIn
+      ∷ own sm2 tpmsSignatureEccIn
+      ∷ own ecschnorr tpmsSignatureEccIn
+      ∷ own hmac tpmtHaIn
+      ∷ own null stop
+      ∷ e .tpmuSignature
+
+  unfoldable pub tpmuSignatureIn : ℕ → Layout
+  tpmuSignatureIn v = unionOf tpmuSignatureTableIn v
+
+  -- kind 9, TPMT_PUBLIC_PARMS
+  unfoldable pub tpmtPublicParmsIn : Layout
+  tpmtPublicParmsIn = number 2 algIn (λ type. tpmuPublicParmsIn type)
+
+  -- kind 10, TPMT_SIGNATURE
+  unfoldable pub tpmtSignatureIn : Layout
+  tpmtSignatureIn = number 2 algIn (λ sigAlg. tpmuSignatureIn sigAlg)
+
+  -- kind 11, TPMT_PUBLIC: both arms by type
+  unfoldable pub tpmtPublicIn : Layout
+  tpmtPublicIn =
+      number 2 algIn (λ type.
+      number 2 algIn (λ nameAlg.
+      number 4 free (λ objectAttributes.
+      digest (
+      tpmuPublicParmsIn type then tpmuPublicIdIn type))))
+
+  -- kind 12, TPMT_SENSITIVE
+  unfoldable pub tpmtSensitiveIn : Layout
+  tpmtSensitiveIn =
+      number 2 algIn (λ sensitiveType.
+      digest (
+      digest (
+      tpmuSensitiveCompositeIn sensitiveType)))
+
+  -- ---- PCR selections and attestations: kinds 14 and 13
+
+  -- TPMS_PCR_SELECTION: hash, size and so many bytes of bits
+  unfoldable pub tpmsPcrSelectionIn : Layout
+  tpmsPcrSelectionIn = number 2 algIn (λ hashAlg. buffer 1 4 stop)
+
+  -- kind 14, TPML_PCR_SELECTION
+  unfoldable pub tpmlPcrSelectionIn : Layout
+  tpmlPcrSelectionIn = counted (mostItems PcrSelection) tpmsPcrSelectionIn stop
+
+  -- TPMS_QUOTE_INFO: PCR selections, PCR digest
+  unfoldable pub tpmsQuoteInfoIn : Layout
+  tpmsQuoteInfoIn = tpmlPcrSelectionIn then digest stop
+
+  -- TPMS_COMMAND_AUDIT_INFO: audit digest and command digest last
+  unfoldable pub tpmsCommandAuditInfoIn : Layout
+  tpmsCommandAuditInfoIn = number 8 free (λ auditCounter. number 2 algIn (λ digestAlg. digest (digest stop)))
+
+  -- TPMU_ATTEST
+  abbrev pub tpmuAttestTableIn : List Row
+  tpmuAttestTableIn =
+      own attestCertify tpmsCertifyInfo
+      ∷ own attestCreation tpmsCreationInfo
+      ∷ own attestQuote tpmsQuoteInfoIn
+      ∷ own attestCommandAudit tpmsCommandAuditInfoIn
+      ∷ own attestSessionAudit tpmsSessionAuditInfo
+      ∷ own attestTime tpmsTimeAttestInfo
+      ∷ own attestNv tpmsNvCertifyInfo
+      ∷ own attestNvDigest tpmsNvDigestCertifyInfo
+      ∷ e .tpmuAttest
+
+  unfoldable pub tpmuAttestIn : ℕ → Layout
+  tpmuAttestIn v = unionOf tpmuAttestTableIn v
+
+  -- kind 13, TPMS_ATTEST
+  unfoldable pub tpmsAttestIn : Layout
+  tpmsAttestIn =
+      number 4 magic (λ magic.
+      number 2 attestationIn (λ type.
+      name (
+      qualifying (
+      tpmsClockInfo then
+      number 8 free (λ firmwareVersion.
+      tpmuAttestIn type)))))
+
+  -- ---- by number
+
+  -- the kinds of the edition from 1 on
+  unfoldable pub kindsIn : List Layout
+  kindsIn =
+      tpmtHaIn ∷ tpmtSymDefIn ∷ tpmtKdfSchemeIn ∷ tpmtKeyedhashSchemeIn ∷ tpmtSigSchemeIn ∷ tpmtAsymSchemeIn ∷ tpmtAsymSchemeIn ∷ tpmtAsymSchemeIn
+      ∷ tpmtPublicParmsIn ∷ tpmtSignatureIn ∷ tpmtPublicIn ∷ tpmtSensitiveIn ∷ tpmsAttestIn ∷ tpmlPcrSelectionIn
+      ∷ []
+
+  -- the layout of a kind in the edition; no bytes spell a kind that there is not
+  unfoldable pub layoutIn : ℕ → Layout
+  layoutIn zero = noArm 0
+  layoutIn (suc k) = getD kindsIn k (noArm 0)
