@@ -77,10 +77,10 @@ module _ {s r : RefT (List ℕ)} where
 
 -- ---- a byte field of a record: its part of the source, which stands there, and its size
 
-pub sought-part : (k : ℕ) (l : Layout) (ps ls : List Part) (src old last : List ℕ) (u w : Walk) (x : List ℕ) (s r : RefT (List ℕ)) (i : ℕ) → u ≡ seeking i → Walks k l ps ls src (here u old) (here w last)
+pub sought-part : {k : ℕ} {l : Layout} {ps ls : List Part} {src old last : List ℕ} {u w : Walk} {x : List ℕ} {s r : RefT (List ℕ)} {i : ℕ} → u ≡ seeking i → Walks k l ps ls src (here u old) (here w last)
     → ((asked : ℕ) → x ≡ partOf (seekAnswer w asked src)) × StandsAt s r (seekStart w src) → (x ≡ partOf (fieldOf ps i src)) × StandsAt s r (startAt ps i src)
 unfolding fieldOf
-sought-part k l ps ls src old last u w x s r i begin p e = subst (λ y. (x ≡ partOf (y .0)) × StandsAt s r (y .1)) (sought k l ps ls src old last u w i begin p) (e .0 i, e .1)
+sought-part {k} {l} {ps} {ls} {src} {old} {last} {u} {w} {x} {s} {r} {i} begin p e = subst (λ y. (x ≡ partOf (y .0)) × StandsAt s r (y .1)) (sought k l ps ls src old last u w i begin p) (e .0 i, e .1)
 
 pub sought-size : (k : ℕ) (l : Layout) (ps ls : List Part) (src old last : List ℕ) (u w : Walk) (x : Ans ℕ) (i : ℕ) → u ≡ seeking i → Walks k l ps ls src (here u old) (here w last)
     → x ≡ sizeOf (seekAnswer w i src) → x ≡ sizeOf (fieldOf ps i src)
@@ -89,11 +89,11 @@ sought-size k l ps ls src old last u w x i begin p e = e ∙ ap (λ y. sizeOf (y
 
 -- ---- and an item of its list: what is answered of any list that is the one found is so of the record's
 
-pub listed-part : (which : ListOf) (k : ℕ) (l : Layout) (ps ls : List Part) (src old last : List ℕ) (u w : Walk) (x : List ℕ) (s r : RefT (List ℕ)) (i : ℕ) → u ≡ listSeeking → Walks k l ps ls src (here u old) (here w last)
+pub listed-part : (which : ListOf) {k : ℕ} {l : Layout} {ps ls : List Part} {src old last : List ℕ} {u w : Walk} {x : List ℕ} {s r : RefT (List ℕ)} {i : ℕ} → u ≡ listSeeking → Walks k l ps ls src (here u old) (here w last)
     → ((ms : List Part) → pickField ms 0 i src ≡ seekAnswer w i src → x ≡ partOf (itemOf (mostItems which) (itemLayout which) ms i src))
     × ((ms : List Part) → pickField ms 0 i src ≡ seekAnswer w i src → startAt ms 0 src ≡ seekStart w src → StandsAt s r (itemStart (mostItems which) (itemLayout which) ms i src))
     → (x ≡ partOf (itemOf (mostItems which) (itemLayout which) ls i src)) × StandsAt s r (itemStart (mostItems which) (itemLayout which) ls i src)
-listed-part which k l ps ls src old last u w x s r i begin p e =
+listed-part which {k} {l} {ps} {ls} {src} {old} {last} {u} {w} {x} {s} {r} {i} begin p e =
     let same = sym (listed k l ps ls src old last u w i begin p) in
     (e .0 ls (ap (λ y. y .0) same), e .1 ls (ap (λ y. y .0) same) (ap (λ y. y .1) same))
 
