@@ -31,6 +31,7 @@ ghost use Rattle.wire.specs.Records.{num};
 ghost use Rattle.wire.specs.Reading.{also, read, readWhole};
 ghost use Rattle.wire.specs.Fields.{partOf, sizeOf, fieldOf};
 ghost use Rattle.wire.specs.Items.{itemOf};
+ghost use Rattle.wire.specs.Places.{StandsAt, startAt, itemStart};
 ghost use Rattle.format.specs.Kinds.{tpmsAttest, tpmuAttest, tpmsClockInfo, itemLayout, mostItems};
 ghost use Rattle.format.specs.declared.list.ListOf.the-variants.{PcrSelection};
 ghost use Rattle.steps.specs.Walks.{here, Walks};
@@ -175,6 +176,7 @@ impl TpmsAttest {
 
     pub fn field<'a>(self, s: &'a [u8], index: usize) -> &'a [u8]
         ensures { λ r. ⌜ now r ≡ partOf (fieldOf (tpmsAttestParts self) index (now (s .entry))) ⌝ }
+        ensures place { λ r. ⌜ StandsAt (s .entry) r (startAt (tpmsAttestParts self) index (now (s .entry))) ⌝ }
     {
         self.walk(seeking(index), s, &mut []).part(s)
     }
@@ -187,6 +189,7 @@ impl TpmsAttest {
 
     pub fn item<'a>(self, s: &'a [u8], index: usize) -> &'a [u8]
         ensures { λ r. ⌜ now r ≡ partOf (itemOf (mostItems PcrSelection) (itemLayout PcrSelection) (tpmuAttestLists (self .attested)) index (now (s .entry))) ⌝ }
+        ensures place { λ r. ⌜ StandsAt (s .entry) r (itemStart (mostItems PcrSelection) (itemLayout PcrSelection) (tpmuAttestLists (self .attested)) index (now (s .entry))) ⌝ }
     {
         let found = self.walk(list_seeking(), s, &mut []);
         item(found, ListOf::PcrSelection, s, index)

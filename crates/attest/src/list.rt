@@ -18,6 +18,7 @@ ghost use Rattle.wire.specs.Answers.{measureAnswer};
 ghost use Rattle.wire.specs.Reading.{read, readWhole};
 ghost use Rattle.wire.specs.Fields.{partOf, sizeOf, fieldOf};
 ghost use Rattle.wire.specs.Items.{itemOf};
+ghost use Rattle.wire.specs.Places.{StandsAt, startAt, itemStart};
 ghost use Rattle.format.specs.declared.list.ListOf.the-variants.{PcrSelection};
 ghost use Rattle.format.specs.Kinds.{tpmlPcrSelection, itemLayout, mostItems};
 ghost use Rattle.steps.specs.Walks.{here, Walks};
@@ -80,6 +81,7 @@ impl TpmlPcrSelection {
 
     pub fn field<'a>(self, s: &'a [u8], index: usize) -> &'a [u8]
         ensures { λ r. ⌜ now r ≡ partOf (fieldOf (tpmlPcrSelectionParts self) index (now (s .entry))) ⌝ }
+        ensures place { λ r. ⌜ StandsAt (s .entry) r (startAt (tpmlPcrSelectionParts self) index (now (s .entry))) ⌝ }
     {
         self.walk(seeking(index), s, &mut []).part(s)
     }
@@ -92,6 +94,7 @@ impl TpmlPcrSelection {
 
     pub fn item<'a>(self, s: &'a [u8], index: usize) -> &'a [u8]
         ensures { λ r. ⌜ now r ≡ partOf (itemOf (mostItems PcrSelection) (itemLayout PcrSelection) (tpmlPcrSelectionParts self) index (now (s .entry))) ⌝ }
+        ensures place { λ r. ⌜ StandsAt (s .entry) r (itemStart (mostItems PcrSelection) (itemLayout PcrSelection) (tpmlPcrSelectionParts self) index (now (s .entry))) ⌝ }
     {
         let found = self.walk(list_seeking(), s, &mut []);
         item(found, ListOf::PcrSelection, s, index)

@@ -25,6 +25,7 @@ ghost use Rattle.wire.specs.Records.{refused};
 ghost use Rattle.wire.specs.Reading.{read, readWhole};
 ghost use Rattle.wire.specs.Answers.{measureAnswer};
 ghost use Rattle.wire.specs.Fields.{partOf, sizeOf, fieldOf};
+ghost use Rattle.wire.specs.Places.{StandsAt, startAt};
 ghost use Rattle.format.specs.Kinds.{tpmtHa, tpmtSymDef};
 ghost use Rattle.steps.specs.Walks.{here, Walks};
 ghost use Rattle.steps.specs.Writes.{Writes};
@@ -105,6 +106,7 @@ impl TpmtHa {
 
     pub fn field<'a>(self, s: &'a [u8], index: usize) -> &'a [u8]
         ensures { λ r. ⌜ now r ≡ partOf (fieldOf (tpmtHaParts self) index (now (s .entry))) ⌝ }
+        ensures place { λ r. ⌜ StandsAt (s .entry) r (startAt (tpmtHaParts self) index (now (s .entry))) ⌝ }
     {
         self.walk(seeking(index), s, &mut []).part(s)
     }
@@ -118,6 +120,7 @@ impl TpmtHa {
     // It has no list.
     pub fn item<'a>(self, s: &'a [u8], index: usize) -> &'a [u8]
         ensures { λ r. ⌜ now r ≡ [] ⌝ }
+        ensures place { λ r. ⌜ StandsAt (s .entry) r 0 ⌝ }
     {
         &s[0..0]
     }
@@ -196,6 +199,7 @@ impl TpmtSymDef {
 
     pub fn field<'a>(self, s: &'a [u8], index: usize) -> &'a [u8]
         ensures { λ r. ⌜ now r ≡ partOf (fieldOf (tpmtSymDefParts self) index (now (s .entry))) ⌝ }
+        ensures place { λ r. ⌜ StandsAt (s .entry) r (startAt (tpmtSymDefParts self) index (now (s .entry))) ⌝ }
     {
         self.walk(seeking(index), s, &mut []).part(s)
     }
@@ -209,6 +213,7 @@ impl TpmtSymDef {
     // It has no list.
     pub fn item<'a>(self, s: &'a [u8], index: usize) -> &'a [u8]
         ensures { λ r. ⌜ now r ≡ [] ⌝ }
+        ensures place { λ r. ⌜ StandsAt (s .entry) r 0 ⌝ }
     {
         &s[0..0]
     }

@@ -26,6 +26,7 @@ ghost use Rattle.wire.specs.Layout.{_then_};
 ghost use Rattle.wire.specs.Records.{num, refused};
 ghost use Rattle.wire.specs.Reading.{also, read, readWhole};
 ghost use Rattle.wire.specs.Fields.{partOf, sizeOf, fieldOf};
+ghost use Rattle.wire.specs.Places.{StandsAt, startAt};
 ghost use Rattle.format.specs.Kinds.{tpmtPublic, tpmuPublicParms, tpmuPublicId};
 ghost use Rattle.steps.specs.Walks.{here, Walks};
 ghost use Rattle.steps.specs.Writes.{Writes};
@@ -166,6 +167,7 @@ impl TpmtPublic {
 
     pub fn field<'a>(self, s: &'a [u8], index: usize) -> &'a [u8]
         ensures { λ r. ⌜ now r ≡ partOf (fieldOf (tpmtPublicParts self) index (now (s .entry))) ⌝ }
+        ensures place { λ r. ⌜ StandsAt (s .entry) r (startAt (tpmtPublicParts self) index (now (s .entry))) ⌝ }
     {
         self.walk(seeking(index), s, &mut []).part(s)
     }
@@ -179,6 +181,7 @@ impl TpmtPublic {
     // It has no list.
     pub fn item<'a>(self, s: &'a [u8], index: usize) -> &'a [u8]
         ensures { λ r. ⌜ now r ≡ [] ⌝ }
+        ensures place { λ r. ⌜ StandsAt (s .entry) r 0 ⌝ }
     {
         &s[0..0]
     }

@@ -2,8 +2,9 @@
 use Prim.Native.Nat.{ℕ, zero, suc, _+_, _-_, _≤_, _<_}
 use native.Mathlib.Nat.{zero-add}
 use native.Mathlib.Omega.{arith}
-use mathlib.Core.Path.{_≡_, refl, sym, ap, _∙_}
+use mathlib.Core.Path.{_≡_, refl, sym, ap, _∙_, subst}
 use mathlib.Core.List.{List, [], _∷_}
+use denote.Ref.{RefT}
 use lib.ListN.{length, take, drop}
 use lib.Seq.{take-take, drop-drop}
 use borrow.Author.Tests.{le-leb}
@@ -16,8 +17,9 @@ use Rattle.wire.specs.Bytes.{Bytes, be}
 use Rattle.wire.specs.Records.{Part, num, tag, span, Ans, found, refused, next, Parsed}
 use Rattle.wire.specs.Reading.{Reader, walk, endOf, read}
 use Rattle.wire.specs.Writing.{cut, whole, moved}
-use Rattle.wire.specs.Fields.{pickField}
+use Rattle.wire.specs.Fields.{pickField, partOf}
 use Rattle.wire.specs.Items.{pickItem, itemOf}
+use Rattle.wire.specs.Places.{StandsAt, startIf, startAt, placeOf, itemStart}
 use Rattle.wire.proofs.Cuts.{cut-length}
 use Rattle.wire.proofs.Rest.{told}
 use Rattle.wire.proofs.Steps.{found-refused, found-same, refused-same, next-found}
@@ -26,9 +28,10 @@ use Rattle.format.specs.Kinds.{itemLayout, mostItems}
 use Rattle.steps.specs.declared.walk.Walk.{Walk}
 use Rattle.steps.specs.Near.{Near}
 use Rattle.steps.specs.Steps.{Items, spellStep}
-use Rattle.steps.specs.Walks.{after, foundBy, seekAnswer}
+use Rattle.steps.specs.Walks.{after, seekAnswer, seekStart}
+use Rattle.steps.proofs.Found.{found-seen, none-seen}
 use Rattle.lists.specs.declared.item.Place.{Place}
-use Rattle.lists.specs.Items.{itemAnswer, ItemInside}
+use Rattle.lists.specs.Items.{itemAnswer, itemFrom, ItemInside, ItemBehind}
 use Rattle.lists.proofs.Lists.{IsList, item-ends}
 
 -- ---- the walk
@@ -71,6 +74,11 @@ cut-at src (num n) = found []
 cut-at src (tag t) = found []
 cut-at src (span start len) = cut src start len 0
 
+abbrev start-of : Part → ℕ
+start-of (num n) = 0
+start-of (tag t) = 0
+start-of (span start len) = start
+
 abbrev end-of : Part → ℕ
 end-of (num n) = 0
 end-of (tag t) = 0
@@ -85,23 +93,29 @@ module _ (which : ListOf) (xs : List ℕ) (n i : ℕ) where
   picked = pickItem (λ s a. read (itemLayout which) s a) n i i xs 4
 
   pub item-at : {start e : ℕ} (t : Span) → Bytes xs → i < n → found start ≡ walk (λ s a. read (itemLayout which) s a) i xs 4 → found e ≡ endOf (read (itemLayout which) xs start) → spanPart t ≡ span start (e - start)
-      → (cut xs (startOf t) (lenOf t) 0 ≡ picked) × (startOf t + lenOf t ≤ length xs)
+      → (cut xs (startOf t) (lenOf t) 0 ≡ picked) × (startOf t + lenOf t ≤ length xs) × (found (startOf t) ≡ walk (λ s a. read (itemLayout which) s a) i xs 4)
   unfolding cut
   item-at {start} {e} t b h p q is =
       let (ahead, inside) = item-ends which xs start b q in
       let shown : cut xs start (e - start) 0 ≡ found (take (e - start) (drop start xs)) = rw (le-leb (start + (e - start)) (length xs) (omega arith)) in
-      (ap (cut-at xs) is ∙ shown ∙ ap (λ a. next a (λ e. found (take (e - start) (drop start xs)))) q ∙ sym (pick-from (λ s a. read (itemLayout which) s a) xs i n i 4 h p), omega (arith, ap end-of is))
+      (ap (cut-at xs) is ∙ shown ∙ ap (λ a. next a (λ e. found (take (e - start) (drop start xs)))) q ∙ sym (pick-from (λ s a. read (itemLayout which) s a) xs i n i 4 h p), omega (arith, ap end-of is), ap (λ y. found (start-of y)) is ∙ p)
 
-  pub item-bad : {start : ℕ} {f : Refusal} → i < n → found start ≡ walk (λ s a. read (itemLayout which) s a) i xs 4 → refused f ≡ endOf (read (itemLayout which) xs start) → (refused f ≡ picked) × Unit {0}
-  item-bad {start} h p q = (ap (λ a. next a (λ e. found (take (e - start) (drop start xs)))) q ∙ sym (pick-from (λ s a. read (itemLayout which) s a) xs i n i 4 h p), tt)
+  pub item-bad : {start : ℕ} {f : Refusal} → i < n → found start ≡ walk (λ s a. read (itemLayout which) s a) i xs 4 → refused f ≡ endOf (read (itemLayout which) xs start) → (refused f ≡ picked) × Unit {0} × Unit {0}
+  item-bad {start} h p q = (ap (λ a. next a (λ e. found (take (e - start) (drop start xs)))) q ∙ sym (pick-from (λ s a. read (itemLayout which) s a) xs i n i 4 h p), tt, tt)
 
-  pub item-lost : {f : Refusal} → i < n → refused f ≡ walk (λ s a. read (itemLayout which) s a) i xs 4 → (refused f ≡ picked) × Unit {0}
-  item-lost h p = (pick-lost (λ s a. read (itemLayout which) s a) xs i n i 4 h p, tt)
+  pub item-lost : {f : Refusal} → i < n → refused f ≡ walk (λ s a. read (itemLayout which) s a) i xs 4 → (refused f ≡ picked) × Unit {0} × Unit {0}
+  item-lost h p = (pick-lost (λ s a. read (itemLayout which) s a) xs i n i 4 h p, tt, tt)
 
-  pub item-none : {e : ℕ} {f : Refusal} → n ≤ i → walk (λ s a. read (itemLayout which) s a) n xs 4 ≡ found e → f ≡ noField i → (refused f ≡ picked) × Unit {0}
-  item-none h w is = (ap refused is ∙ pick-none (λ s a. read (itemLayout which) s a) xs i n i 4 h w, tt)
+  pub item-none : {e : ℕ} {f : Refusal} → n ≤ i → walk (λ s a. read (itemLayout which) s a) n xs 4 ≡ found e → f ≡ noField i → (refused f ≡ picked) × Unit {0} × Unit {0}
+  item-none h w is = (ap refused is ∙ pick-none (λ s a. read (itemLayout which) s a) xs i n i 4 h w, tt, tt)
 
 -- ---- the item's place
+
+-- an item that is refused starts nowhere
+no-start : (which : ListOf) (ls : List Part) (i : ℕ) (src : List ℕ) {f : Refusal} → refused f ≡ itemOf (mostItems which) (itemLayout which) ls i src
+    → (refused f ≡ itemOf (mostItems which) (itemLayout which) ls i src) × (0 ≡ itemStart (mostItems which) (itemLayout which) ls i src)
+unfolding itemStart
+no-start which ls i src p = (p, rw (← p))
 
 drop-take : (a n : ℕ) (l : List ℕ) → drop a (take n l) ≡ take (n - a) (drop a l)
 drop-take zero n l = let e : n ≡ n - 0 = omega arith in ap (λ k. take k l) e
@@ -135,22 +149,39 @@ module _ (which : ListOf) (t : Span) (src : List ℕ) {xs : List ℕ} (is : IsLi
   items-of i count = rw (le-leb (startOf t + lenOf t) (length src) (is .inside), ← is .same, is .legal, count)
 
   -- the item that was walked to, or why there is none
-  module _ (i : ℕ) {n : ℕ} {a : Place} (count : n ≡ be (take 4 xs)) (walked : (itemAnswer a xs ≡ pickItem (λ s a. read (itemLayout which) s a) n i i xs 4) × ItemInside a xs) where
+  module _ (i : ℕ) {n : ℕ} {a : Place} (count : n ≡ be (take 4 xs)) (walked : (itemAnswer a xs ≡ pickItem (λ s a. read (itemLayout which) s a) n i i xs 4) × ItemInside a xs × ItemBehind a which i xs) where
     pub item-inside : (s : Span) → a ≡ Place.At s → startOf s + lenOf s ≤ length xs
     item-inside s q = rw q at (walked .1)
 
-    pub item-found : (s v : Span) → a ≡ Place.At s → spanPart v ≡ span (startOf t + startOf s) (lenOf s) → cut src (startOf v) (lenOf v) 0 ≡ itemOf (mostItems which) (itemLayout which) (spanPart t ∷ []) i src
-    item-found s v q new =
+    item-same : (s v : Span) → a ≡ Place.At s → spanPart v ≡ span (startOf t + startOf s) (lenOf s) → cut src (startOf v) (lenOf v) 0 ≡ itemOf (mostItems which) (itemLayout which) (spanPart t ∷ []) i src
+    item-same s v q new =
         ap (cut-at src) new ∙ cut-of-part (startOf s) (lenOf s) (item-inside s q) ∙ told (λ x. itemAnswer x xs) q (walked .0) ∙ sym (items-of i count)
 
-    pub item-refused : {f : Refusal} → a ≡ Place.No f → refused f ≡ itemOf (mostItems which) (itemLayout which) (spanPart t ∷ []) i src
-    item-refused q = told (λ x. itemAnswer x xs) q (walked .0) ∙ sym (items-of i count)
+    -- it starts behind the items ahead of it
+    item-behind : (s v : Span) → a ≡ Place.At s → spanPart v ≡ span (startOf t + startOf s) (lenOf s)
+        → startOf v ≡ startAt (spanPart t ∷ []) 0 src + placeOf (walk (λ s a. read (itemLayout which) s a) i (partOf (pickField (spanPart t ∷ []) 0 i src)) 4)
+    unfolding cut
+    item-behind s v q new =
+        let behind : found (startOf s) ≡ walk (λ s a. read (itemLayout which) s a) i xs 4 = rw q at (walked .2) in
+        ap start-of new ∙ rw (le-leb (startOf t + lenOf t) (length src) (is .inside), ← is .same) (ap (λ x. startOf t + placeOf x) behind)
+
+    pub item-found : (s v : Span) → a ≡ Place.At s → spanPart v ≡ span (startOf t + startOf s) (lenOf s)
+        → (cut src (startOf v) (lenOf v) 0 ≡ itemOf (mostItems which) (itemLayout which) (spanPart t ∷ []) i src)
+        × (startIf (cut src (startOf v) (lenOf v) 0) (startOf v) ≡ itemStart (mostItems which) (itemLayout which) (spanPart t ∷ []) i src)
+    unfolding itemStart
+    item-found s v q new =
+        let same = item-same s v q new in
+        (same, ap (λ x. startIf x (startOf v)) same ∙ ap (λ n. startIf (itemOf (mostItems which) (itemLayout which) (spanPart t ∷ []) i src) n) (item-behind s v q new))
+
+    pub item-refused : {f : Refusal} → a ≡ Place.No f
+        → (refused f ≡ itemOf (mostItems which) (itemLayout which) (spanPart t ∷ []) i src) × (0 ≡ itemStart (mostItems which) (itemLayout which) (spanPart t ∷ []) i src)
+    item-refused q = no-start which (spanPart t ∷ []) i src (told (λ x. itemAnswer x xs) q (walked .0) ∙ sym (items-of i count))
 
 -- a list that is refused has no items
 pub no-items : (which : ListOf) (t : Span) (src : List ℕ) (i : ℕ) {m : Measure} {f : Refusal} → m ≡ Measure.No f → (measureAnswer m ≡ after 0 (spellStep (Items which t) src 0)) × Near m 0
-    → refused f ≡ itemOf (mostItems which) (itemLayout which) (spanPart t ∷ []) i src
+    → (refused f ≡ itemOf (mostItems which) (itemLayout which) (spanPart t ∷ []) i src) × (0 ≡ itemStart (mostItems which) (itemLayout which) (spanPart t ∷ []) i src)
 unfolding spellStep itemOf
-no-items which t src i {f = f} q p = by (cut src (startOf t) (lenOf t) 0) (told measureAnswer q (p .0))
+no-items which t src i {f = f} q p = no-start which (spanPart t ∷ []) i src (by (cut src (startOf t) (lenOf t) 0) (told measureAnswer q (p .0)))
   where
     here : (g : Refusal) → g ≡ record { fault = g .fault; place = 0 + g .place; value = g .value }
     here g = ap (λ n. record { fault = g .fault; place = n; value = g .value }) (sym (zero-add (g .place)))
@@ -171,24 +202,38 @@ of-the-list : (which : ListOf) (ls ms : List Part) (i : ℕ) (src : List ℕ) �
 unfolding itemOf
 of-the-list which ls ms i src p = ap (λ a. next a (λ xs. next (whole (mostItems which) (itemLayout which) xs) (λ ys. pickItem (λ s a. read (itemLayout which) s a) (be (take 4 ys)) i i ys 4))) p
 
+-- and where it starts on the list's start too
+of-the-start : (which : ListOf) (ls ms : List Part) (i : ℕ) (src : List ℕ) → pickField ls 0 i src ≡ pickField ms 0 i src → startAt ls 0 src ≡ startAt ms 0 src
+    → itemStart (mostItems which) (itemLayout which) ls i src ≡ itemStart (mostItems which) (itemLayout which) ms i src
+unfolding itemStart
+of-the-start which ls ms i src p q = rw (of-the-list which ls ms i src p, q, p)
+
+module _ (which : ListOf) (w : Walk) (src : List ℕ) (i : ℕ) (ls : List Part) (sought : pickField ls 0 i src ≡ seekAnswer w i src) where
+  same-field : (t : Span) → w .mode ≡ 5 → spanPart t ≡ span (w .at) (w .value) → pickField (spanPart t ∷ []) 0 i src ≡ pickField ls 0 i src
+  same-field t m e = ap (λ y. y .0) (found-seen w src i t m e) ∙ sym sought
+
+  none-sought : (w .mode ≡ 5 → ⊥) → pickField [] 0 i src ≡ pickField ls 0 i src
+  none-sought h = ap (λ y. y .0) (none-seen w src i h) ∙ sym sought
+
+  -- where it stands
+  module _ (starts : startAt ls 0 src ≡ seekStart w src) {s r : RefT (List ℕ)} where
+    pub item-stands : (t : Span) (a b : Place) → a ≡ b → w .mode ≡ 5 → spanPart t ≡ span (w .at) (w .value) → itemFrom a src ≡ itemStart (mostItems which) (itemLayout which) (spanPart t ∷ []) i src
+        → StandsAt s r (itemFrom b src) → StandsAt s r (itemStart (mostItems which) (itemLayout which) ls i src)
+    item-stands t a b q m e p there =
+        let same : itemFrom b src ≡ itemStart (mostItems which) (itemLayout which) ls i src = ap (λ x. itemFrom x src) (sym q) ∙ p
+            ∙ of-the-start which (spanPart t ∷ []) ls i src (same-field t m e) (ap (λ y. y .1) (found-seen w src i t m e) ∙ sym starts) in
+        subst (λ n. StandsAt s r n) same there
+
+    pub none-stands : (w .mode ≡ 5 → ⊥) → StandsAt s r 0 → StandsAt s r (itemStart (mostItems which) (itemLayout which) ls i src)
+    unfolding itemOf
+    none-stands h there = subst (λ n. StandsAt s r n) (no-start which ls i src (of-the-list which [] ls i src (none-sought h)) .1) there
+
 -- f is what is asked of the item: its bytes, or how many there are
 module _ {B : Type 0} (f : Ans (List ℕ) → B) (which : ListOf) (w : Walk) (src : List ℕ) (i : ℕ) (ls : List Part) (sought : pickField ls 0 i src ≡ seekAnswer w i src) where
-  same-list : (t : Span) → w .mode ≡ 5 → spanPart t ≡ span (w .at) (w .value) → itemOf (mostItems which) (itemLayout which) (spanPart t ∷ []) i src ≡ itemOf (mostItems which) (itemLayout which) ls i src
-  same-list t m e = of-the-list which (spanPart t ∷ []) ls i src (ap (λ x. pickField (x ∷ []) 0 i src) e ∙ ap (λ n. foundBy n w i src) (sym m) ∙ sym sought)
-
   pub list-item : (t : Span) (a b : Place) (z : B) → a ≡ b → w .mode ≡ 5 → spanPart t ≡ span (w .at) (w .value) → itemAnswer a src ≡ itemOf (mostItems which) (itemLayout which) (spanPart t ∷ []) i src
       → z ≡ f (itemAnswer b src) → z ≡ f (itemOf (mostItems which) (itemLayout which) ls i src)
-  list-item t a b z q m e p s = s ∙ ap f (ap (λ x. itemAnswer x src) (sym q) ∙ p ∙ same-list t m e)
+  list-item t a b z q m e p s = s ∙ ap f (ap (λ x. itemAnswer x src) (sym q) ∙ p ∙ of-the-list which (spanPart t ∷ []) ls i src (same-field which w src i ls sought t m e))
 
   pub no-item : (z : B) → (w .mode ≡ 5 → ⊥) → z ≡ f (refused (noField i)) → z ≡ f (itemOf (mostItems which) (itemLayout which) ls i src)
   unfolding itemOf
-  no-item z h s = s ∙ ap f (of-the-list which [] ls i src (sym (sought ∙ none (w .mode) h)))
-    where
-      none : (m : ℕ) → (m ≡ 5 → ⊥) → foundBy m w i src ≡ refused (noField i)
-      none zero h = refl
-      none (suc zero) h = refl
-      none (suc (suc zero)) h = refl
-      none (suc (suc (suc zero))) h = refl
-      none (suc (suc (suc (suc zero)))) h = refl
-      none (suc (suc (suc (suc (suc zero))))) h = absurd (h refl)
-      none (suc (suc (suc (suc (suc (suc n)))))) h = refl
+  no-item z h s = s ∙ ap f (of-the-list which [] ls i src (none-sought which w src i ls sought h))

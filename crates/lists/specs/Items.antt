@@ -6,8 +6,9 @@ use lib.ListN.{length}
 use Rattle.wire.specs.Answers.{startOf, lenOf, spanPart}
 use Rattle.wire.specs.Lines.{lines}
 use Rattle.wire.specs.Records.{Part, num, Ans, found, refused, Parsed, parsed}
-use Rattle.wire.specs.Reading.{read}
+use Rattle.wire.specs.Reading.{walk, read}
 use Rattle.wire.specs.Writing.{cut}
+use Rattle.wire.specs.Places.{startIf}
 use Rattle.format.specs.declared.list.ListOf.{ListOf}
 use Rattle.format.specs.Kinds.{itemLayout}
 use Rattle.steps.specs.Walks.{Here, putLines}
@@ -37,3 +38,13 @@ itemAnswer (Place.No f) src = refused f
 abbrev pub ItemInside : Place → (xs : List ℕ) → Type 0
 ItemInside (Place.At s) xs = startOf s + lenOf s ≤ length xs
 ItemInside (Place.No f) xs = Unit {0}
+
+-- where the item at a place starts; 0 where there is none
+abbrev pub itemFrom : Place → List ℕ → ℕ
+itemFrom (Place.At s) src = startIf (cut src (startOf s) (lenOf s) 0) (startOf s)
+itemFrom (Place.No f) src = 0
+
+-- an item that is found, the one with the index i, starts where the i items ahead of it end
+abbrev pub ItemBehind : Place → ListOf → (i : ℕ) (xs : List ℕ) → Type 0
+ItemBehind (Place.At s) which i xs = found (startOf s) ≡ walk (λ s a. read (itemLayout which) s a) i xs 4
+ItemBehind (Place.No f) which i xs = Unit {0}

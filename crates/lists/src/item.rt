@@ -18,9 +18,10 @@ ghost use Rattle.wire.specs.Records.{Part, found};
 ghost use Rattle.wire.specs.Reading.{read, walk};
 ghost use Rattle.wire.specs.Fields.{partOf, sizeOf, pickField};
 ghost use Rattle.wire.specs.Items.{pickItem, itemOf};
+ghost use Rattle.wire.specs.Places.{StandsAt, startAt, itemStart};
 ghost use Rattle.format.specs.Kinds.{itemLayout, mostItems};
-ghost use Rattle.steps.specs.Walks.{seekAnswer};
-ghost use Rattle.lists.specs.Items.{itemAnswer, ItemInside};
+ghost use Rattle.steps.specs.Walks.{seekAnswer, seekStart};
+ghost use Rattle.lists.specs.Items.{itemAnswer, itemFrom, ItemInside, ItemBehind};
 
 // Where an item stands, or why there is none.
 pub(crate) enum Place {
@@ -31,7 +32,7 @@ pub(crate) enum Place {
 // Where the item of xs with that index stands, a list of `count` items that was judged.
 fn item_at(which: ListOf, xs: &[u8], count: u32, index: usize) -> Place
     requires { ⌜ walk (λ s a. read (itemLayout which) s a) count (now xs) 4 ≡ found (length (now xs)) ⌝ }
-    ensures { λ r. ⌜ (itemAnswer r (now (xs .entry)) ≡ pickItem (λ s a. read (itemLayout which) s a) count index index (now (xs .entry)) 4) × ItemInside r (now (xs .entry)) ⌝ }
+    ensures { λ r. ⌜ (itemAnswer r (now (xs .entry)) ≡ pickItem (λ s a. read (itemLayout which) s a) count index index (now (xs .entry)) 4) × ItemInside r (now (xs .entry)) × ItemBehind r which index (now (xs .entry)) ⌝ }
 {
     if index >= count as usize {
         return Place::No(Refusal::no_field(index));
@@ -51,6 +52,7 @@ fn item_at(which: ListOf, xs: &[u8], count: u32, index: usize) -> Place
 // Where the item with that index of the list with that span stands in s. The whole list is judged first, as a writer judges it.
 fn item_in(which: ListOf, list: Span, s: &[u8], index: usize) -> Place
     ensures { λ r. ⌜ itemAnswer r (now (s .entry)) ≡ itemOf (mostItems which) (itemLayout which) (spanPart list ∷ []) index (now (s .entry)) ⌝ }
+    ensures place { λ r. ⌜ itemFrom r (now (s .entry)) ≡ itemStart (mostItems which) (itemLayout which) (spanPart list ∷ []) index (now (s .entry)) ⌝ }
 {
     match judge_list(which, list, s, 0) {
         Measure::Size(_) => {
@@ -70,9 +72,10 @@ fn item_in(which: ListOf, list: Span, s: &[u8], index: usize) -> Place
     }
 }
 
-// The item with that index of the list that was found, an empty part where there is none.
+// The item with that index of the list that was found; where there is none, the empty part at the slice's start.
 pub fn item<'a>(w: Walk, which: ListOf, s: &'a [u8], index: usize) -> &'a [u8]
     ensures { λ r. ⌜ ((ls : List Part) → pickField ls 0 index (now (s .entry)) ≡ seekAnswer w index (now (s .entry)) → now r ≡ partOf (itemOf (mostItems which) (itemLayout which) ls index (now (s .entry)))) ⌝ }
+    ensures place { λ r. ⌜ ((ls : List Part) → pickField ls 0 index (now (s .entry)) ≡ seekAnswer w index (now (s .entry)) → startAt ls 0 (now (s .entry)) ≡ seekStart w (now (s .entry)) → StandsAt (s .entry) r (itemStart (mostItems which) (itemLayout which) ls index (now (s .entry)))) ⌝ }
 {
     if w.mode == FOUND {
         let len = w.value as usize;

@@ -22,6 +22,7 @@ ghost use Rattle.wire.specs.Records.{refused};
 ghost use Rattle.wire.specs.Reading.{read, readWhole};
 ghost use Rattle.wire.specs.Answers.{measureAnswer};
 ghost use Rattle.wire.specs.Fields.{partOf, sizeOf, fieldOf};
+ghost use Rattle.wire.specs.Places.{StandsAt, startAt};
 ghost use Rattle.format.specs.Kinds.{tpmtKdfScheme, tpmtKeyedhashScheme, tpmtSigScheme, tpmtAsymScheme};
 ghost use Rattle.steps.specs.Walks.{here, Walks};
 ghost use Rattle.steps.specs.Writes.{Writes};
@@ -139,6 +140,7 @@ impl TpmtKdfScheme {
 
     pub fn field<'a>(self, s: &'a [u8], index: usize) -> &'a [u8]
         ensures { λ r. ⌜ now r ≡ partOf (fieldOf (tpmtKdfSchemeParts self) index (now (s .entry))) ⌝ }
+        ensures place { λ r. ⌜ StandsAt (s .entry) r (startAt (tpmtKdfSchemeParts self) index (now (s .entry))) ⌝ }
     {
         self.walk(seeking(index), s, &mut []).part(s)
     }
@@ -152,6 +154,7 @@ impl TpmtKdfScheme {
     // It has no list.
     pub fn item<'a>(self, s: &'a [u8], index: usize) -> &'a [u8]
         ensures { λ r. ⌜ now r ≡ [] ⌝ }
+        ensures place { λ r. ⌜ StandsAt (s .entry) r 0 ⌝ }
     {
         &s[0..0]
     }
@@ -214,6 +217,7 @@ impl TpmtKeyedhashScheme {
 
     pub fn field<'a>(self, s: &'a [u8], index: usize) -> &'a [u8]
         ensures { λ r. ⌜ now r ≡ partOf (fieldOf (tpmtKeyedhashSchemeParts self) index (now (s .entry))) ⌝ }
+        ensures place { λ r. ⌜ StandsAt (s .entry) r (startAt (tpmtKeyedhashSchemeParts self) index (now (s .entry))) ⌝ }
     {
         self.walk(seeking(index), s, &mut []).part(s)
     }
@@ -227,6 +231,7 @@ impl TpmtKeyedhashScheme {
     // It has no list.
     pub fn item<'a>(self, s: &'a [u8], index: usize) -> &'a [u8]
         ensures { λ r. ⌜ now r ≡ [] ⌝ }
+        ensures place { λ r. ⌜ StandsAt (s .entry) r 0 ⌝ }
     {
         &s[0..0]
     }
@@ -289,6 +294,7 @@ impl TpmtSigScheme {
 
     pub fn field<'a>(self, s: &'a [u8], index: usize) -> &'a [u8]
         ensures { λ r. ⌜ now r ≡ partOf (fieldOf (tpmtSigSchemeParts self) index (now (s .entry))) ⌝ }
+        ensures place { λ r. ⌜ StandsAt (s .entry) r (startAt (tpmtSigSchemeParts self) index (now (s .entry))) ⌝ }
     {
         self.walk(seeking(index), s, &mut []).part(s)
     }
@@ -302,6 +308,7 @@ impl TpmtSigScheme {
     // It has no list.
     pub fn item<'a>(self, s: &'a [u8], index: usize) -> &'a [u8]
         ensures { λ r. ⌜ now r ≡ [] ⌝ }
+        ensures place { λ r. ⌜ StandsAt (s .entry) r 0 ⌝ }
     {
         &s[0..0]
     }
@@ -364,6 +371,7 @@ impl TpmtRsaScheme {
 
     pub fn field<'a>(self, s: &'a [u8], index: usize) -> &'a [u8]
         ensures { λ r. ⌜ now r ≡ partOf (fieldOf (tpmtRsaSchemeParts self) index (now (s .entry))) ⌝ }
+        ensures place { λ r. ⌜ StandsAt (s .entry) r (startAt (tpmtRsaSchemeParts self) index (now (s .entry))) ⌝ }
     {
         self.walk(seeking(index), s, &mut []).part(s)
     }
@@ -377,6 +385,7 @@ impl TpmtRsaScheme {
     // It has no list.
     pub fn item<'a>(self, s: &'a [u8], index: usize) -> &'a [u8]
         ensures { λ r. ⌜ now r ≡ [] ⌝ }
+        ensures place { λ r. ⌜ StandsAt (s .entry) r 0 ⌝ }
     {
         &s[0..0]
     }
@@ -439,6 +448,7 @@ impl TpmtEccScheme {
 
     pub fn field<'a>(self, s: &'a [u8], index: usize) -> &'a [u8]
         ensures { λ r. ⌜ now r ≡ partOf (fieldOf (tpmtEccSchemeParts self) index (now (s .entry))) ⌝ }
+        ensures place { λ r. ⌜ StandsAt (s .entry) r (startAt (tpmtEccSchemeParts self) index (now (s .entry))) ⌝ }
     {
         self.walk(seeking(index), s, &mut []).part(s)
     }
@@ -452,6 +462,7 @@ impl TpmtEccScheme {
     // It has no list.
     pub fn item<'a>(self, s: &'a [u8], index: usize) -> &'a [u8]
         ensures { λ r. ⌜ now r ≡ [] ⌝ }
+        ensures place { λ r. ⌜ StandsAt (s .entry) r 0 ⌝ }
     {
         &s[0..0]
     }
@@ -514,6 +525,7 @@ impl TpmtRsaDecrypt {
 
     pub fn field<'a>(self, s: &'a [u8], index: usize) -> &'a [u8]
         ensures { λ r. ⌜ now r ≡ partOf (fieldOf (tpmtRsaDecryptParts self) index (now (s .entry))) ⌝ }
+        ensures place { λ r. ⌜ StandsAt (s .entry) r (startAt (tpmtRsaDecryptParts self) index (now (s .entry))) ⌝ }
     {
         self.walk(seeking(index), s, &mut []).part(s)
     }
@@ -527,6 +539,7 @@ impl TpmtRsaDecrypt {
     // It has no list.
     pub fn item<'a>(self, s: &'a [u8], index: usize) -> &'a [u8]
         ensures { λ r. ⌜ now r ≡ [] ⌝ }
+        ensures place { λ r. ⌜ StandsAt (s .entry) r 0 ⌝ }
     {
         &s[0..0]
     }

@@ -16,6 +16,7 @@ ghost use Rattle.wire.specs.Answers.{measureAnswer};
 ghost use Rattle.wire.specs.Records.{refused};
 ghost use Rattle.wire.specs.Reading.{read, readWhole};
 ghost use Rattle.wire.specs.Fields.{partOf, sizeOf, fieldOf};
+ghost use Rattle.wire.specs.Places.{StandsAt, startAt};
 ghost use Rattle.format.specs.Kinds.{tpmtSignature};
 ghost use Rattle.steps.specs.Walks.{here, Walks};
 ghost use Rattle.steps.specs.Writes.{Writes};
@@ -83,6 +84,7 @@ impl TpmtSignature {
 
     pub fn field<'a>(self, s: &'a [u8], index: usize) -> &'a [u8]
         ensures { λ r. ⌜ now r ≡ partOf (fieldOf (tpmtSignatureParts self) index (now (s .entry))) ⌝ }
+        ensures place { λ r. ⌜ StandsAt (s .entry) r (startAt (tpmtSignatureParts self) index (now (s .entry))) ⌝ }
     {
         self.walk(seeking(index), s, &mut []).part(s)
     }
@@ -96,6 +98,7 @@ impl TpmtSignature {
     // It has no list.
     pub fn item<'a>(self, s: &'a [u8], index: usize) -> &'a [u8]
         ensures { λ r. ⌜ now r ≡ [] ⌝ }
+        ensures place { λ r. ⌜ StandsAt (s .entry) r 0 ⌝ }
     {
         &s[0..0]
     }

@@ -14,11 +14,12 @@ use Rattle.wire.specs.declared.width.Width.{Width}
 use Rattle.wire.specs.Answers.{widthOf, startOf, lenOf}
 use Rattle.wire.specs.Bytes.{digits}
 use Rattle.wire.specs.Layout.{lengthTo}
-use Rattle.wire.specs.Records.{Ans, found, refused, next}
+use Rattle.wire.specs.Records.{Part, Ans, found, refused, next}
 use Rattle.wire.specs.Reading.{list, read}
 use Rattle.wire.specs.Writing.{cut, spelt, whole, onto}
 use Rattle.wire.specs.Filling.{written, filled}
 use Rattle.wire.specs.Fields.{pickField}
+use Rattle.wire.specs.Places.{startAt}
 use Rattle.wire.proofs.Digits.{length-digits}
 use Rattle.wire.proofs.Steps.{found-refused, found-same, next-found, when-found}
 use Rattle.wire.proofs.Written.{spelt-found, cut-found, moved-found}
@@ -27,7 +28,7 @@ use Rattle.text.proofs.Putting.{filled-puts, puts-length, puts-then, puts-none}
 use Rattle.format.specs.declared.list.ListOf.{ListOf}
 use Rattle.format.specs.Kinds.{itemLayout, mostItems}
 use Rattle.steps.specs.Steps.{Step, Number, Plain, Buffer, Items, Due, spell, spellStep, spansOf, listsOf, laid}
-use Rattle.steps.specs.Walks.{Here, here, judging, putting, seeking, listSeeking, refusing, finding, after, judged, judgeStep, countOf, putStep, seekSpan, seekStep, seekAnswer, stepWalk, run, most, reach}
+use Rattle.steps.specs.Walks.{Here, here, judging, putting, seeking, listSeeking, refusing, finding, after, judged, judgeStep, countOf, putStep, seekSpan, seekStep, seekAnswer, seekStart, stepWalk, run, most, reach}
 use Rattle.steps.proofs.Reach.{list-near}
 use Rattle.steps.proofs.Spelled.{Inside, Next, next-step}
 
@@ -178,23 +179,34 @@ run-puts (s ∷ ss) src at old bs p h =
 
 -- ---- seeking
 
-pub run-seeks : (ss : List Step) (src : List ℕ) (i asked : ℕ) (out : List ℕ) → seekAnswer (run ss src (here (seeking i) out) .walk) asked src ≡ pickField (spansOf ss) i asked src
+-- the bytes that were sought, or why there are none, and where they start
+abbrev pub Sought : Type 0
+Sought = Ans (List ℕ) × ℕ
+
+-- as the walk has them, and as the parts do
+abbrev pub seen : Here → (asked : ℕ) → List ℕ → Sought
+seen h asked src = (seekAnswer (h .walk) asked src, seekStart (h .walk) src)
+
+abbrev pub picked : List Part → (i asked : ℕ) → List ℕ → Sought
+picked ps i asked src = (pickField ps i asked src, startAt ps i src)
+
+pub run-seeks : (ss : List Step) (src : List ℕ) (i asked : ℕ) (out : List ℕ) → seen (run ss src (here (seeking i) out)) asked src ≡ picked (spansOf ss) i asked src
 unfolding run stepWalk seekStep seekSpan
 run-seeks [] src i asked out = refl
 run-seeks (Number w r n ∷ ss) src i asked out = run-seeks ss src i asked out
-run-seeks (Plain n s ∷ ss) src zero asked out = ap (λ h. seekAnswer (h .walk) asked src) (stays-at ss src s out)
+run-seeks (Plain n s ∷ ss) src zero asked out = ap (λ h. seen h asked src) (stays-at ss src s out)
 run-seeks (Plain n s ∷ ss) src (suc i) asked out = run-seeks ss src i asked out
-run-seeks (Buffer m s ∷ ss) src zero asked out = ap (λ h. seekAnswer (h .walk) asked src) (stays-at ss src s out)
+run-seeks (Buffer m s ∷ ss) src zero asked out = ap (λ h. seen h asked src) (stays-at ss src s out)
 run-seeks (Buffer m s ∷ ss) src (suc i) asked out = run-seeks ss src i asked out
-run-seeks (Items j s ∷ ss) src zero asked out = ap (λ h. seekAnswer (h .walk) asked src) (stays-at ss src s out)
+run-seeks (Items j s ∷ ss) src zero asked out = ap (λ h. seen h asked src) (stays-at ss src s out)
 run-seeks (Items j s ∷ ss) src (suc i) asked out = run-seeks ss src i asked out
 run-seeks (Due v c b ∷ ss) src i asked out = run-seeks ss src i asked out
 
-pub run-list : (ss : List Step) (src : List ℕ) (asked : ℕ) (out : List ℕ) → seekAnswer (run ss src (here listSeeking out) .walk) asked src ≡ pickField (listsOf ss) 0 asked src
+pub run-list : (ss : List Step) (src : List ℕ) (asked : ℕ) (out : List ℕ) → seen (run ss src (here listSeeking out)) asked src ≡ picked (listsOf ss) 0 asked src
 unfolding run stepWalk
 run-list [] src asked out = refl
 run-list (Number w r n ∷ ss) src asked out = run-list ss src asked out
 run-list (Plain n s ∷ ss) src asked out = run-list ss src asked out
 run-list (Buffer m s ∷ ss) src asked out = run-list ss src asked out
-run-list (Items j s ∷ ss) src asked out = ap (λ h. seekAnswer (h .walk) asked src) (stays-at ss src s out)
+run-list (Items j s ∷ ss) src asked out = ap (λ h. seen h asked src) (stays-at ss src s out)
 run-list (Due v c b ∷ ss) src asked out = run-list ss src asked out

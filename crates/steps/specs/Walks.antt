@@ -18,6 +18,7 @@ use Rattle.wire.specs.Lines.{Says, aCode, aNumber, theBytes, Line, line}
 use Rattle.wire.specs.Records.{Part, Ans, found, refused, next}
 use Rattle.wire.specs.Writing.{cut}
 use Rattle.wire.specs.Filling.{written, filled}
+use Rattle.wire.specs.Places.{startIf}
 use Rattle.text.specs.declared.line.Word.{Word}
 use Rattle.text.specs.Text.{sayWord, lineText}
 use Rattle.steps.specs.Steps.{Step, Number, Plain, Buffer, Items, Due, spellStep, stepLines, Plans}
@@ -148,6 +149,10 @@ foundBy (suc (suc (suc (suc (suc (suc n)))))) w asked src = refused (noField ask
 
 abbrev pub seekAnswer : Walk → (asked : ℕ) → List ℕ → Ans (List ℕ)
 seekAnswer w asked src = foundBy (w .mode) w asked src
+
+-- where the part starts that a walk found, 0 where none was
+abbrev pub seekStart : Walk → List ℕ → ℕ
+seekStart w src = startIf (seekAnswer w 0 src) (w .at)
 
 -- ---- lines, put one behind the other where there is room
 

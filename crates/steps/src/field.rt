@@ -13,7 +13,8 @@ ghost use Prim.Native.Nat.{ℕ};
 ghost use lib.Dec.{eqb};
 ghost use Rattle.wire.specs.Answers.{measureAnswer};
 ghost use Rattle.wire.specs.Fields.{partOf, sizeOf};
-ghost use Rattle.steps.specs.Walks.{seekSpan, seekAnswer};
+ghost use Rattle.wire.specs.Places.{StandsAt};
+ghost use Rattle.steps.specs.Walks.{seekSpan, seekAnswer, seekStart};
 
 fn seek_span(span: Span, index: usize) -> Walk
     ensures { λ r. ⌜ r ≡ seekSpan span index ⌝ }
@@ -35,9 +36,10 @@ impl Walk {
         self
     }
 
-    // The part of s that was found, an empty one where none was.
+    // The part of s that was found; where none was, the empty one at its start.
     pub fn part<'a>(self, s: &'a [u8]) -> &'a [u8]
         ensures { λ r. ⌜ ((asked : ℕ) → now r ≡ partOf (seekAnswer self asked (now (s .entry)))) ⌝ }
+        ensures place { λ r. ⌜ StandsAt (s .entry) r (seekStart self (now (s .entry))) ⌝ }
     {
         if self.mode == FOUND {
             let len = self.value as usize;

@@ -4,6 +4,7 @@ use native.Mathlib.Omega.{arith}
 use mathlib.Core.Path.{_≡_, refl, sym, _∙_}
 use mathlib.Core.Bool.{Bool, true, false}
 use mathlib.Core.List.{List, []}
+use denote.Ref.{RefT}
 use lib.ListN.{length, take, drop, length-drop}
 use lib.Seq.{length-take-le}
 use lib.Dec.{leb}
@@ -13,6 +14,7 @@ use Rattle.faults.specs.Faults.{badSpan}
 use Rattle.wire.specs.Records.{Ans, found, refused}
 use Rattle.wire.specs.Writing.{cut}
 use Rattle.wire.specs.Fields.{partOf, sizeOf}
+use Rattle.wire.specs.Places.{StandsAt, startIf}
 use Rattle.wire.proofs.Steps.{found-refused}
 
 module _ (src : List ℕ) (start len at : ℕ) where
@@ -40,6 +42,16 @@ module _ (src : List ℕ) (start len at : ℕ) where
   pub part-out : leb (start + len) (length src) ≡ false → [] ≡ partOf (cut src start len at)
   unfolding cut
   part-out t = rw t
+
+  -- where the part stands that is handed out
+  module _ {s r : RefT (List ℕ)} where
+    pub stands-there : leb (start + len) (length src) ≡ true → StandsAt s r start → StandsAt s r (startIf (cut src start len at) start)
+    unfolding cut
+    stands-there t p = rw t p
+
+    pub stands-out : leb (start + len) (length src) ≡ false → StandsAt s r 0 → StandsAt s r (startIf (cut src start len at) start)
+    unfolding cut
+    stands-out t p = rw t p
 
   -- bytes that have a size are there, whatever place a refusal would name
   pub sized-part : {n : ℕ} → found n ≡ sizeOf (cut src start len at) → cut src start len at ≡ found (partOf (cut src start len 0))

@@ -12,6 +12,7 @@ pub mod Unwritten
 pub mod Filling
 pub mod Fields
 pub mod Items
+pub mod Places
 pub mod Lines
 pub mod Editions
 pub mod Sizes

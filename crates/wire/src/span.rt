@@ -8,6 +8,7 @@ ghost use Rattle.wire.specs.Answers.{startOf, lenOf, spanPart, measureAn
 ghost use Rattle.wire.specs.Records.{span};
 ghost use Rattle.wire.specs.Writing.{cut};
 ghost use Rattle.wire.specs.Fields.{partOf, sizeOf};
+ghost use Rattle.wire.specs.Places.{StandsAt, startIf};
 
 pub struct Span {
     start: usize,
@@ -55,9 +56,10 @@ impl Span {
         Measure::No(Refusal::bad_span(place, self.len))
     }
 
-    // Its part of s, an empty one where s has none.
+    // Its part of s; where s has none, the empty one at its start.
     pub fn part<'a>(self, s: &'a [u8]) -> &'a [u8]
         ensures { λ r. ⌜ now r ≡ partOf (cut (now (s .entry)) (startOf self) (lenOf self) 0) ⌝ }
+        ensures place { λ r. ⌜ StandsAt (s .entry) r (startIf (cut (now (s .entry)) (startOf self) (lenOf self) 0) (startOf self)) ⌝ }
     {
         if self.inside(s.len()) {
             let start = self.start;

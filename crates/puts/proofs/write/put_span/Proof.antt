@@ -10,7 +10,7 @@ returns : tie.Need-returns
 returns c =
     let p = c .before .before .before .before in
     let q = p .before in
-    rw (sized-part _ _ _ _ (ap measureAnswer (sym (q .enum-told .given .1)) ∙ q .before .before .measure .ensures), ← p .part .ensures) (c .before .before .put-bytes .ensures)
+    rw (sized-part _ _ _ _ (ap measureAnswer (sym (q .enum-told .given .1)) ∙ q .before .before .measure .ensures), ← p .part .ensures .0) (c .before .before .put-bytes .ensures)
 
 returns-2 : tie.Need-returns-2
 returns-2 c =

@@ -5,4 +5,4 @@ use Rattle.sensitive.proofs.tpmt.TpmtSensitive.field.Tie as tie
 pub field-spec : {M : Type 1} → Rattle.sensitive.proofs.tpmt.TpmtSensitive.field.Statement.statement M
 field-spec = tie.close (tie.spec
     (search needs) (search needs) (search needs) (search needs)
-    (λ c. sought-part _ _ _ _ _ _ _ _ _ _ _ (c .before .before .before .before .seeking .ensures) (c .before .before .walk .ensures) (c .part .ensures)))
+    (λ c. sought-part (c .before .before .before .before .seeking .ensures) (c .before .before .walk .ensures) (c .part .ensures)))

@@ -3,7 +3,7 @@ use borrow.Author.Needs.{needs}
 use borrow.Author.Tests.{leb-true}
 use native.Mathlib.Omega.{arith}
 use mathlib.Core.Path.{sym, _∙_}
-use Rattle.wire.proofs.Cuts.{part-there, part-out}
+use Rattle.wire.proofs.Cuts.{part-there, part-out, stands-there, stands-out}
 use Rattle.wire.proofs.span.Span.part.Statement.{statement}
 use Rattle.wire.proofs.span.Span.part.Tie as tie
 
@@ -14,10 +14,14 @@ part-result-end : tie.Need-part-result-end
 part-result-end c = let within = sym (c .before .before .inside .ensures) ∙ c .before .if1 .taken in omega (arith, leb-true)
 
 returns : tie.Need-returns
-returns c = part-there _ _ _ _ (sym (c .before .before .before .inside .ensures) ∙ c .before .before .if1 .taken)
+returns c =
+    let within = sym (c .before .before .before .inside .ensures) ∙ c .before .before .if1 .taken in
+    (part-there _ _ _ _ within, stands-there _ _ _ _ within (search needs))
 
 returns-2 : tie.Need-returns-2
-returns-2 c = part-out _ _ _ 0 (sym (c .before .before .inside .ensures) ∙ c .before .if1 .left)
+returns-2 c =
+    let out = sym (c .before .before .inside .ensures) ∙ c .before .if1 .left in
+    (part-out _ _ _ 0 out, stands-out _ _ _ 0 out (search needs))
 
 pub part-spec : {M : Type 1} → statement M
 part-spec = tie.close (tie.spec
