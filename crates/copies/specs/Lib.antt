@@ -1,3 +1,4 @@
 pub mod Sizes
 pub mod Within
 pub mod Walked
+pub mod Copied

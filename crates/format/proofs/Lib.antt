@@ -2,4 +2,5 @@ pub mod Tables
 pub mod Lists
 pub mod Greatest
 pub mod Numbered
+pub mod Legal
 pub mod Samples
