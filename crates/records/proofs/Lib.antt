@@ -1,2 +1,4 @@
 pub mod Promises
 pub mod Readers
+pub mod Ends
+pub mod WholeEnds
