@@ -1,5 +1,6 @@
-pub mod Walked
 pub mod Lent
+pub mod Copied
+pub mod Walked
 pub mod Begun
 pub mod Laid
 pub mod Rewritten

@@ -24,7 +24,9 @@ use Rattle.steps.specs.declared.walk.Walk.{Walk}
 use Rattle.steps.specs.Walks.{Here, here, judging, refusing, Walks, readyWalk, walkAnswer}
 use Rattle.steps.proofs.Search.{by-more}
 use Rattle.steps.proofs.Marshalled.{marshalled, refusing-answer}
-use Rattle.copies.specs.Walked.{WalkOf, recordBytes, Copies}
+use Rattle.copies.specs.Walked.{WalkOf}
+use Rattle.copies.specs.Copied.{recordBytes, Copies}
+use Rattle.copies.proofs.Copied.{copies}
 use Rattle.format.proofs.Numbered.{of-kind, no-kind-read}
 pub use borrow.Author.Needs.{needs}
 
@@ -81,8 +83,8 @@ copied k src old mid last u w v z r b begin first ready second told = by (readKi
         let (ms, q) = second .walked e in
         let done = marshalled 24 (layoutOf k) (x .parts) ls ms src old mid last u w v z r begin p ready q told refl in
         let bytes = read-bytes k src x b e in
-        record { answer = done .answer ∙ ap (λ a. written 0 a old) bytes ∙ rw e; buffer = done .buffer ∙ ap (λ a. filled 0 a old) bytes ∙ rw e }
+        copies k src old last r b (done .answer ∙ ap (λ a. written 0 a old) bytes ∙ rw e) (done .buffer ∙ ap (λ a. filled 0 a old) bytes ∙ rw e)
     by (refused f) e =
         let p = first .none e in
         let q = second .none e in
-        record { answer = told ∙ ap (λ h. walkAnswer (h .walk)) q ∙ refusing-answer f ∙ rw e; buffer = ap (λ h. h .out) q ∙ ap (λ h. h .out) p ∙ rw e }
+        copies k src old last r b (told ∙ ap (λ h. walkAnswer (h .walk)) q ∙ refusing-answer f ∙ rw e) (ap (λ h. h .out) q ∙ ap (λ h. h .out) p ∙ rw e)

@@ -21,7 +21,7 @@ use Rattle.wire.specs.Unwritten.{Unwritten}
 use Rattle.wire.proofs.Answers.{measure-answer-once}
 use Rattle.format.specs.Kinds.{layoutOf}
 use Rattle.copies.specs.Sizes.{sizesOf}
-use Rattle.copies.specs.Walked.{recordBytes, Copies}
+use Rattle.copies.specs.Copied.{recordBytes, Copies}
 use Rattle.copies.proofs.Lent.{refusal-changes-nothing, size-is-of-bytes}
 use Rattle.copies.proofs.Rewritten as rewritten
 use Rattle.steps.specs.Writes.{Writes}

@@ -36,7 +36,8 @@ use wire::widen::wide_byte;
 ghost use Rattle.wire.specs.Reading.{read};
 ghost use Rattle.format.specs.Kinds.{tpmtHa, tpmtSymDef, tpmtKdfScheme, tpmtKeyedhashScheme, tpmtSigScheme, tpmtAsymScheme, tpmtPublicParms, tpmtSignature, tpmtPublic, tpmtSensitive, tpmsAttest, tpmlPcrSelection, layoutOf, readKind};
 ghost use Rattle.steps.specs.Walks.{here};
-ghost use Rattle.copies.specs.Walked.{WalkOf, Copies};
+ghost use Rattle.copies.specs.Walked.{WalkOf};
+ghost use Rattle.copies.specs.Copied.{Copies};
 
 fn tpmt_ha_walk(s: &[u8], w: Walk, out: &mut [u8]) -> Walk
     ensures { λ r. ⌜ WalkOf tpmtHa (now (s .entry)) (read tpmtHa (now (s .entry)) 0) (here w (now (out .entry))) (here r (now (out .exit))) ⌝ }

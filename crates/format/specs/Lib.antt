@@ -1,4 +1,5 @@
 pub mod Kinds
+pub mod Refused
 pub mod Editions
 pub mod EditionKinds
 pub mod Sizes

@@ -1,3 +1,5 @@
 pub mod Promises
 pub mod Readers
+pub mod Ends
+pub mod WholeEnds
 pub mod Editions

@@ -34,6 +34,7 @@ ghost use mathlib.Core.Path.{_≡_};
 ghost use Rattle.wire.specs.Answers.{measureAnswer};
 ghost use Rattle.wire.specs.Reading.{read, endOf};
 ghost use Rattle.format.specs.Kinds.{tpmtHa, tpmtSymDef, tpmtKdfScheme, tpmtKeyedhashScheme, tpmtSigScheme, tpmtAsymScheme, tpmtPublicParms, tpmtSignature, tpmtPublic, tpmtSensitive, tpmsAttest, tpmlPcrSelection, readKind};
+ghost use Rattle.records.specs.Ends.{Ends};
 
 fn tpmt_ha_end(s: &[u8], at: usize) -> Measure
     ensures { λ r. ⌜ measureAnswer r ≡ endOf (read tpmtHa (now (s .entry)) at) ⌝ }
@@ -161,8 +162,8 @@ fn tpml_pcr_selection_end(s: &[u8], at: usize) -> Measure
     }
 }
 
-// Where the record of that kind that starts at `at` ends, or why none does. A number that is no kind is refused first.
-pub fn record_end(kind: u8, s: &[u8], at: usize) -> Measure
+// By the reader of the kind. A number that is no kind is refused first.
+fn end_by_kind(kind: u8, s: &[u8], at: usize) -> Measure
     ensures { λ r. ⌜ measureAnswer r ≡ endOf (readKind kind (now (s .entry)) at) ⌝ }
 {
     match kind {
@@ -182,4 +183,11 @@ pub fn record_end(kind: u8, s: &[u8], at: usize) -> Measure
         14 => tpml_pcr_selection_end(s, at),
         _ => Measure::No(Refusal::bad_kind(wide_byte(kind))),
     }
+}
+
+// Where the record of that kind that starts at `at` ends, whatever follows it, or why none does.
+pub fn record_end(kind: u8, s: &[u8], at: usize) -> Measure
+    ensures { λ r. ⌜ Ends kind (now (s .entry)) at r ⌝ }
+{
+    end_by_kind(kind, s, at)
 }

@@ -12,16 +12,16 @@ returns : tie.Need-returns
 returns c = refusal-listed _ _ (judged-unread _ _ (omega arith) ∙ ap refused (sym (c .before .before .before .before .refused-unread .ensures))) (c .before .before .put-refusal-line .ensures)
 
 sub-tail : tie.Need-sub-tail
-sub-tail c = read-as _ _ (bytes-of (c .before .before .before .before .before .before .before .args .bytes .now) (λ i. (c .before .before .before .before .before .before .shared-slice-known .given i) .fits)) (c .before .before .before .record-end .ensures) (c .before .stop .given .1) .inside
+sub-tail c = read-as _ _ (bytes-of (c .before .before .before .before .before .before .before .args .bytes .now) (λ i. (c .before .before .before .before .before .before .shared-slice-known .given i) .fits)) (c .before .before .before .record-end .ensures .answer) (c .before .stop .given .1) .inside
 
 returns-2 : tie.Need-returns-2
 returns-2 c =
     let bytes = (bytes-of (c .before .before .before .before .before .before .before .before .before .before .before .before .before .before .before .before .args .bytes .now) (λ i. (c .before .before .before .before .before .before .before .before .before .before .before .before .before .before .before .shared-slice-known .given i) .fits)) in
-    let read = read-as _ _ bytes (c .before .before .before .before .before .before .before .before .before .before .before .before .record-end .ensures) (c .before .before .before .before .before .before .before .before .before .before .stop .given .1) in
+    let read = read-as _ _ bytes (c .before .before .before .before .before .before .before .before .before .before .before .before .record-end .ensures .answer) (c .before .before .before .before .before .before .before .before .before .before .stop .given .1) in
     record-listed read bytes (omega arith) (c .before .before .before .before .before .before .before .put-read-line .ensures) (omega arith) (c .before .before .before .before .lining .ensures) (c .before .before .walk .ensures)
 
 returns-3 : tie.Need-returns-3
-returns-3 c = refusal-listed _ _ (judged-refused _ _ (omega arith) (c .before .before .before .before .before .before .before .record-end .ensures) (c .before .before .before .before .before .f .given .1)) (c .before .before .put-refusal-line2 .ensures)
+returns-3 c = refusal-listed _ _ (judged-refused _ _ (omega arith) (c .before .before .before .before .before .before .before .record-end .ensures .answer) (c .before .before .before .before .before .f .given .1)) (c .before .before .put-refusal-line2 .ensures)
 
 pub put-record-spec : {M : Type 1} → statement M
 put-record-spec = tie.close (tie.spec

@@ -1,0 +1,64 @@
+-- What is read by a kind's number, in the grammar's words: a record is read exactly where a legal one of the kind starts, and a refusal
+-- says why none does. Assumes nothing.
+use Prim.Native.Nat.{ℕ, zero, suc, _≤_}
+use native.Mathlib.Omega.{arith}
+use mathlib.Core.Path.{_≡_, refl, sym, ap, _∙_}
+use mathlib.Core.Bool.{Bool, true, false}
+use mathlib.Core.List.{List}
+use lib.ListN.{length, List·getD-eq-default}
+use lib.Dec.{leb}
+use borrow.Author.Tests.{lt-ltb, leb-false}
+use Rattle.faults.specs.declared.Refusal.{Refusal}
+use Rattle.wire.specs.Bytes.{Bytes}
+use Rattle.wire.specs.Layout.{noArm}
+use Rattle.wire.specs.Records.{found, refused, Parsed, parsed}
+use Rattle.wire.specs.Grammar.{Token, Spells, Starts, placed}
+use Rattle.wire.proofs.Steps.{refused-same, when-found}
+use Rattle.wire.proofs.Split.{no-arm-no-record}
+use Rattle.wire.proofs.Sound.{read-sound}
+use Rattle.wire.proofs.Prefix.{starts-read}
+use Rattle.wire.proofs.Refused.{refuses-read, read-refuses}
+use Rattle.format.specs.Kinds.{kinds, isKind, layoutOf, readKind}
+use Rattle.format.specs.Refused.{RefusesKind, no-kind, first-fault}
+use Rattle.format.proofs.Numbered.{of-kind, no-kind-read}
+
+-- ---- only kinds have records
+
+-- a number that is no kind's has the layout that no bytes spell
+none-layout : (k : ℕ) → isKind k ≡ false → layoutOf k ≡ noArm 0
+unfolding layoutOf
+none-layout zero h = refl
+none-layout (suc k) h =
+    let past : leb (suc k) (length kinds) ≡ false = rw (lt-ltb 0 (suc k) (omega arith)) at h in
+    let most : length kinds ≤ k = omega (arith, leb-false (suc k) (length kinds) past) in
+    List·getD-eq-default kinds (noArm 0) most
+
+-- so the number of a legal record is a kind's
+pub spelled-is-kind : (k : ℕ) {ts : List Token} {bs : List ℕ} → Spells (layoutOf k) ts bs → isKind k ≡ true
+spelled-is-kind k d = by (isKind k) refl
+  where
+    by : (b : Bool) → isKind k ≡ b → b ≡ true
+    by true e = refl
+    by false e = absurd (no-arm-no-record (rw (none-layout k e) at d))
+
+-- ---- a record is read where a legal one starts, and only there
+
+pub legal-is-read-by-number : (k : ℕ) {src : List ℕ} {at e : ℕ} (d : Starts (layoutOf k) src at e) → readKind k src at ≡ parsed (placed (d .spells) at) e
+legal-is-read-by-number k {src} {at} d = sym (of-kind k src at refl (spelled-is-kind k (d .spells))) ∙ starts-read d
+
+pub read-by-number-is-legal : (k : ℕ) (src : List ℕ) (at : ℕ) {r : Parsed} → Bytes src → readKind k src at ≡ found r → Starts (layoutOf k) src at (r .stops)
+unfolding readKind
+read-by-number-is-legal k src at {r} b p = read-sound (layoutOf k) src at r b (when-found (isKind k) _ _ p .1)
+
+-- ---- a refusal says why none starts, and what says why none starts is answered
+
+pub refusal-by-number-is-first : (k : ℕ) (src : List ℕ) (at : ℕ) {f : Refusal} → Bytes src → readKind k src at ≡ refused f → RefusesKind k src at f
+refusal-by-number-is-first k src at {f} b p = by (isKind k) refl
+  where
+    by : (t : Bool) → isKind k ≡ t → RefusesKind k src at f
+    by true e = first-fault e (read-refuses (layoutOf k) src at f b (of-kind k src at refl e ∙ p))
+    by false e = no-kind e (refused-same (sym p ∙ sym (no-kind-read k src at e)))
+
+pub first-is-refusal-by-number : (k : ℕ) {src : List ℕ} {at : ℕ} {f : Refusal} → RefusesKind k src at f → readKind k src at ≡ refused f
+first-is-refusal-by-number k {src} {at} (no-kind e same) = sym (no-kind-read k src at e) ∙ ap refused (sym same)
+first-is-refusal-by-number k {src} {at} (first-fault e d) = sym (of-kind k src at refl e) ∙ refuses-read d

@@ -1,0 +1,3 @@
+// Records written and read again: the calls of a type, put together.
+pub mod again;
+pub mod back;
