@@ -1,2 +1,3 @@
 pub mod Deposits
 pub mod Promises
+pub mod Editions
