@@ -179,9 +179,9 @@ module _ (which : ListOf) (t : Span) (src : List ℕ) {xs : List ℕ} (is : IsLi
 
 -- a list that is refused has no items
 pub no-items : (which : ListOf) (t : Span) (src : List ℕ) (i : ℕ) {m : Measure} {f : Refusal} → m ≡ Measure.No f → (measureAnswer m ≡ after 0 (spellStep (Items which t) src 0)) × Near m 0
-    → (refused f ≡ itemOf (mostItems which) (itemLayout which) (spanPart t ∷ []) i src) × (0 ≡ itemStart (mostItems which) (itemLayout which) (spanPart t ∷ []) i src)
+    → refused f ≡ itemOf (mostItems which) (itemLayout which) (spanPart t ∷ []) i src
 unfolding spellStep itemOf
-no-items which t src i {f = f} q p = no-start which (spanPart t ∷ []) i src (by (cut src (startOf t) (lenOf t) 0) (told measureAnswer q (p .0)))
+no-items which t src i {f = f} q p = by (cut src (startOf t) (lenOf t) 0) (told measureAnswer q (p .0))
   where
     here : (g : Refusal) → g ≡ record { fault = g .fault; place = 0 + g .place; value = g .value }
     here g = ap (λ n. record { fault = g .fault; place = n; value = g .value }) (sym (zero-add (g .place)))
@@ -194,6 +194,10 @@ no-items which t src i {f = f} q p = no-start which (spanPart t ∷ []) i src (b
         → refused f ≡ next a (λ xs. next (whole (mostItems which) (itemLayout which) xs) (λ ys. pickItem (λ s a. read (itemLayout which) s a) (be (take 4 ys)) i i ys 4))
     by (found xs) q = walked (whole (mostItems which) (itemLayout which) xs) _ q
     by (refused g) q = ap refused (refused-same q)
+
+pub no-items-start : (which : ListOf) (t : Span) (src : List ℕ) (i : ℕ) {m : Measure} {f : Refusal} → m ≡ Measure.No f → (measureAnswer m ≡ after 0 (spellStep (Items which t) src 0)) × Near m 0
+    → 0 ≡ itemStart (mostItems which) (itemLayout which) (spanPart t ∷ []) i src
+no-items-start which t src i q p = no-start which (spanPart t ∷ []) i src (no-items which t src i q p) .1
 
 -- ---- the items of the list that a walk found
 

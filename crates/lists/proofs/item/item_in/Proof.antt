@@ -5,7 +5,7 @@ use Rattle.wire.proofs.Rest.{told}
 use Rattle.codes.specs.Answers.{uint32Answer}
 use Rattle.steps.proofs.Reach.{items-legal}
 use Rattle.lists.proofs.Lists.{is-list, count-is, count-there}
-use Rattle.lists.proofs.Items.{in-source, item-inside, item-found, item-refused, no-items, new-span}
+use Rattle.lists.proofs.Items.{in-source, item-inside, item-found, item-refused, no-items, no-items-start, new-span}
 use Rattle.lists.proofs.item.item_in.Statement.{statement}
 use Rattle.lists.proofs.item.item_in.Tie as tie
 
@@ -33,8 +33,7 @@ returns-3 : tie.Need-returns-3
 returns-3 c = let is = is-list (c .before .before .before .before .before .before .before .before .before .args .which) (c .before .before .before .before .before .before .before .before .before .args .list) (c .before .before .before .before .before .before .before .before .before .args .s .now) 0 (c .before .before .before .before .before .enum-told .given .1) (c .before .before .before .before .before .before .before .judge-list .ensures) (c .before .before .before .before .part .ensures .0) in absurd (count-there (c .before .before .before .before .before .before .before .before .before .args .which) _ (is .legal) (told uint32Answer (c .before .f2 .given .1) (c .before .before .before .uint32 .ensures)))
 
 returns-4 : tie.Need-returns-4
-returns-4 c = let a = c .before .before .before .before .before in
-    no-items (a .args .which) (a .args .list) (a .args .s .now) (a .args .index) (c .before .f3 .given .1) (c .before .before .before .judge-list .ensures)
+returns-4 c = (search no-items, search no-items-start)
 
 pub item-in-spec : {M : Type 1} → statement M
 item-in-spec = tie.close (tie.spec
