@@ -225,7 +225,7 @@ module _ (which : ListOf) (w : Walk) (src : List ℕ) (i : ℕ) (ls : List Part)
         → StandsAt s r (itemFrom b src) → StandsAt s r (itemStart (mostItems which) (itemLayout which) ls i src)
     item-stands t a b q m e p there =
         let same : itemFrom b src ≡ itemStart (mostItems which) (itemLayout which) ls i src = ap (λ x. itemFrom x src) (sym q) ∙ p
-            ∙ of-the-start which (spanPart t ∷ []) ls i src (same-field t m e) (ap (λ y. y .1) (found-seen w src i t m e) ∙ sym starts) in
+        ∙ of-the-start which (spanPart t ∷ []) ls i src (same-field t m e) (ap (λ y. y .1) (found-seen w src i t m e) ∙ sym starts) in
         subst (λ n. StandsAt s r n) same there
 
     pub none-stands : (w .mode ≡ 5 → ⊥) → StandsAt s r 0 → StandsAt s r (itemStart (mostItems which) (itemLayout which) ls i src)

@@ -6,9 +6,11 @@ use Rattle.lists.proofs.item.item.Statement.{statement}
 use Rattle.lists.proofs.item.item.Tie as tie
 
 returns-2 : tie.Need-returns-2
-returns-2 c = let a = c .before .before .before .before .before .before .before .before in
-    (λ ls told. search (list-item partOf), λ ls told starts. item-stands (a .args .which) (a .args .w) (a .args .s .now) (a .args .index) ls told starts _ _ _
-    (c .before .enum-told .given .1) (c .before .before .before .before .before .if1 .taken) (c .before .before .before .before .new .ensures) (c .before .before .before .item-in .ensures .1) (search needs))
+returns-2 c = let a = c .before .before .before .before .before .before .before .before in (
+  λ ls told. search (list-item partOf),
+  λ ls told starts. item-stands (a .args .which) (a .args .w) (a .args .s .now) (a .args .index) ls told starts _ _ _
+      (c .before .enum-told .given .1) (c .before .before .before .before .before .if1 .taken) (c .before .before .before .before .new .ensures) (c .before .before .before .item-in .ensures .1) (search needs),
+)
 
 returns-3 : tie.Need-returns-3
 returns-3 c = let a = c .before .before .before .before in
