@@ -21,11 +21,11 @@ use Rattle.format.specs.Kinds.{tpmsPcrSelection, itemLayout, mostItems}
 abbrev pub greatestItem : ListOf → ℕ
 greatestItem PcrSelection = 7
 
-pub item-most : (which : ListOf) → AtMost (itemLayout which) (greatestItem which)
+item-most : (which : ListOf) → AtMost (itemLayout which) (greatestItem which)
 unfolding tpmsPcrSelection
 item-most PcrSelection = number-most 2 5 alg (λ n a. buffer-most 1 4 0 stop-most)
 
-pub item-reaches : (which : ListOf) → Reaches (itemLayout which) (greatestItem which)
+item-reaches : (which : ListOf) → Reaches (itemLayout which) (greatestItem which)
 unfolding tpmsPcrSelection isAlgorithm algorithms
 item-reaches PcrSelection = number-reaches 2 alg sha256 (omega arith) refl (buffer-reaches 1 4 (omega arith) stop-reaches)
 
