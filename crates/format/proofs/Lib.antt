@@ -1,3 +1,4 @@
+pub mod Errors
 pub mod Tables
 pub mod Lists
 pub mod Greatest

@@ -1,0 +1,25 @@
+-- Errors that readers of these records have made, each against what our tables say. Assumes nothing.
+use mathlib.Core.Path.{_≡_, refl}
+use Rattle.wire.specs.Layout.{stop, noArm, arm, one, free}
+use Rattle.codes.specs.Codes.{aes, null, rsaes}
+use Rattle.format.specs.Kinds.{tpmuSymKeyBitsArm, tpmuSymKeyBits, tpmuSymModeArm, tpmuSymMode, tpmuAsymSchemeArm, tpmuAsymScheme, tpmuSensitiveCompositeArm, tpmuSensitiveComposite}
+
+-- key bits and a mode read after a Null cipher: it has neither
+pub null-cipher-has-neither : (tpmuSymKeyBits null ≡ arm null null stop) × (tpmuSymMode null ≡ arm null null stop)
+unfolding tpmuSymKeyBits tpmuSymKeyBitsArm tpmuSymMode tpmuSymModeArm
+null-cipher-has-neither = (refl, refl)
+
+-- key bits taken for a count of bytes: they are a number, whatever it is, and nothing follows it
+pub key-bits-are-a-number : tpmuSymKeyBits aes ≡ arm aes aes (one 2 free)
+unfolding tpmuSymKeyBits tpmuSymKeyBitsArm
+key-bits-are-a-number = refl
+
+-- a hash read after RSAES because its neighbours have one: it has none
+pub rsaes-has-no-hash : tpmuAsymScheme rsaes ≡ arm rsaes null stop
+unfolding tpmuAsymScheme tpmuAsymSchemeArm
+rsaes-has-no-hash = refl
+
+-- Null taken for an arm of the sensitive union: it has none there
+pub sensitive-has-no-null : tpmuSensitiveComposite null ≡ noArm null
+unfolding tpmuSensitiveComposite tpmuSensitiveCompositeArm
+sensitive-has-no-null = refl
