@@ -31,3 +31,4 @@ pub mod Cuts
 pub mod Widths
 pub mod Numbers
 pub mod Filling
+pub mod Places
