@@ -38,3 +38,4 @@ pub mod ListsKept
 pub mod Widths
 pub mod Numbers
 pub mod Filling
+pub mod Starts
