@@ -1,10 +1,13 @@
 // Lists every deposit on standard input: two bytes that say how long it is, then the deposit, and then the next. Behind the listing of a
-// record that was read comes the line `again`, with the bytes that it is written as.
+// record that was read comes the line `again`, with the bytes that it is written as: if its copy, and it written and read again, and it read
+// whole, all have the same size.
 use codes::uint::Uint16Read;
 use codes::uint::uint16;
 use copies::walk::copy;
 use listing::deposit::LISTING_ROOM;
 use listing::deposit::list_deposit;
+use records::whole::whole_end;
+use roundtrip::again::again;
 use text::put::put_hex;
 use wire::measure::Measure;
 
@@ -34,23 +37,37 @@ fn write_again_line(bytes: &[u8], out: &mut [u8]) {
     io::write_all(1, &end);
 }
 
-fn write_again(kind: u8, bytes: &[u8], again: &mut [u8], out: &mut [u8]) {
-    match copy(kind, bytes, again) {
-        Measure::Size(n) => {
-            if n <= again.len() {
-                write_again_line(&again[..n], out);
-            }
-        }
-        Measure::No(_) => {}
+// Whether a record of that size is read whole where it is all there is, and refused where more stands behind it.
+fn whole_agrees(kind: u8, bytes: &[u8], size: usize) -> bool {
+    match whole_end(kind, bytes, 0) {
+        Measure::Size(end) => end == size && end == bytes.len(),
+        Measure::No(_) => size < bytes.len(),
     }
 }
 
-fn answer(deposit: &[u8], again: &mut [u8], out: &mut [u8]) {
+// The line `again`, if all the calls agree on the record's size. Its bytes are those that were written and read again.
+fn write_again(kind: u8, bytes: &[u8], copied: &mut [u8], written: &mut [u8], out: &mut [u8]) {
+    let size = match copy(kind, bytes, copied) {
+        Measure::Size(n) => n,
+        Measure::No(_) => return,
+    };
+    let end = match again(kind, bytes, written) {
+        Measure::Size(n) => n,
+        Measure::No(_) => return,
+    };
+    if size == end && whole_agrees(kind, bytes, size) {
+        if size <= written.len() {
+            write_again_line(&written[..size], out);
+        }
+    }
+}
+
+fn answer(deposit: &[u8], copied: &mut [u8], written: &mut [u8], out: &mut [u8]) {
     write_listing(deposit, out);
     if deposit.len() > 0 {
         if deposit.len() <= 4097 {
             let kind = deposit[0];
-            write_again(kind, &deposit[1..], again, out);
+            write_again(kind, &deposit[1..], copied, written, out);
         }
     }
 }
@@ -67,7 +84,8 @@ fn next_length() -> usize {
 
 // Answers a deposit of that length, if space has room for one and so many bytes come.
 fn answer_one(length: usize, space: &mut [u8]) -> bool {
-    let mut again = [0u8; 4096];
+    let mut copied = [0u8; 4096];
+    let mut written = [0u8; 4096];
     let mut out = [0u8; LISTING_ROOM];
     if length > space.len() {
         return false;
@@ -76,7 +94,7 @@ fn answer_one(length: usize, space: &mut [u8]) -> bool {
     if taken < length {
         return false;
     }
-    answer(&space[..length], &mut again, &mut out);
+    answer(&space[..length], &mut copied, &mut written, &mut out);
     true
 }
 

@@ -14,5 +14,4 @@ slice-aggregate-answer c = sym (length-take-le _ _ (omega arith))
 
 pub answer-one-spec : {M : Type 1} → statement M
 answer-one-spec = tie.close (tie.spec
-    (λ c. search needs) (search needs) slice-aggregate-read-full (search needs) (search needs) (λ c. search needs) (search needs)
-    slice-aggregate-answer (search needs) (search needs) (search needs) (search needs) (λ c. search needs))
+    (λ c. search needs) (λ c. search needs) slice-aggregate-read-full (search needs) (search needs) (λ c. search needs) (search needs) slice-aggregate-answer (search needs) (search needs) (search needs) (search needs) (search needs) (λ c. search needs))

@@ -11,5 +11,4 @@ slice-aggregate-write-again-line c = sym (length-take-le _ _ (omega arith))
 
 pub write-again-spec : {M : Type 1} → statement M
 write-again-spec = tie.close (tie.spec
-    (search needs) (search needs) (search needs) slice-aggregate-write-again-line (search needs) (search needs) (search needs) (search needs)
-    (λ c. search needs) (search needs) (λ c. search needs) (search needs) (λ c. search needs))
+    (search needs) (search needs) (search needs) (search needs) (λ c. search needs) (search needs) (search needs) (search needs) (search needs) (search needs) (λ c. search needs) (search needs) (search needs) slice-aggregate-write-again-line (search needs) (search needs) (search needs) (search needs) (λ c. search needs) (search needs) (search needs) (λ c. search needs) (search needs) (search needs) (λ c. search needs))
