@@ -19,7 +19,7 @@ use Rattle.wire.proofs.Sound.{read-sound}
 use Rattle.wire.proofs.Prefix.{starts-read}
 use Rattle.wire.proofs.Refused.{refuses-read, read-refuses}
 use Rattle.format.specs.Kinds.{kinds, isKind, layoutOf, readKind}
-use Rattle.format.specs.Refused.{RefusesKind, no-kind, first-fault}
+use Rattle.format.specs.Refused.{RefusesKind, no-kind, in-record}
 use Rattle.format.proofs.Numbered.{of-kind, no-kind-read}
 
 -- ---- only kinds have records
@@ -56,9 +56,9 @@ pub refusal-by-number-is-first : (k : ℕ) (src : List ℕ) (at : ℕ) {f : Refu
 refusal-by-number-is-first k src at {f} b p = by (isKind k) refl
   where
     by : (t : Bool) → isKind k ≡ t → RefusesKind k src at f
-    by true e = first-fault e (read-refuses (layoutOf k) src at f b (of-kind k src at refl e ∙ p))
+    by true e = in-record e (read-refuses (layoutOf k) src at f b (of-kind k src at refl e ∙ p))
     by false e = no-kind e (refused-same (sym p ∙ sym (no-kind-read k src at e)))
 
 pub first-is-refusal-by-number : (k : ℕ) {src : List ℕ} {at : ℕ} {f : Refusal} → RefusesKind k src at f → readKind k src at ≡ refused f
 first-is-refusal-by-number k {src} {at} (no-kind e same) = sym (no-kind-read k src at e) ∙ ap refused (sym same)
-first-is-refusal-by-number k {src} {at} (first-fault e d) = sym (of-kind k src at refl e) ∙ refuses-read d
+first-is-refusal-by-number k {src} {at} (in-record e d) = sym (of-kind k src at refl e) ∙ refuses-read d

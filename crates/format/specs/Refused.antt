@@ -12,4 +12,4 @@ use Rattle.format.specs.Kinds.{isKind, layoutOf}
 -- the place `at` on
 pub data RefusesKind (k : ℕ) (src : List ℕ) (at : ℕ) (f : Refusal) : Type 0 where
   no-kind : isKind k ≡ false → f ≡ badKind k → RefusesKind k src at f
-  first-fault : isKind k ≡ true → Refuses src (layoutOf k) at f → RefusesKind k src at f
+  in-record : isKind k ≡ true → Refuses src (layoutOf k) at f → RefusesKind k src at f

@@ -28,6 +28,7 @@ use Rattle.format.specs.Refused.{RefusesKind}
 use Rattle.format.proofs.Numbered.{of-kind}
 use Rattle.format.proofs.Legal.{spelled-is-kind, legal-is-read-by-number, read-by-number-is-legal, refusal-by-number-is-first, first-is-refusal-by-number}
 use Rattle.records.specs.Ends.{Ends}
+use Rattle.records.proofs.Promises as promises
 
 -- no end is a refusal, and that one
 pub no-end : (a : Ans Parsed) {f : Refusal} → endOf a ≡ refused f → a ≡ refused f
@@ -81,4 +82,6 @@ module _ (k : ℕ) (src : List ℕ) (at : ℕ) (r : Measure) (answer : measureAn
         refusal-is-first = λ e. refusal-by-number-is-first k src at b (no-end (readKind k src at) (told e));
         first-is-refusal = λ {f} d. answers (Measure.No f) (ap endOf (first-is-refusal-by-number k d));
         cut-is-short = cut-is;
+        ours-has-end = λ some x d stands all. answers (Measure.Size _) (promises.ours-has-end k some x d stands all);
+        not-ours-has-no-end = λ some x d stands foreign. let (f, g, p) = promises.not-ours-has-no-end k some x d stands foreign in (f, g, answers (Measure.No f) p);
       }

@@ -12,7 +12,8 @@ use Rattle.wire.specs.Answers.{measureAnswer}
 use Rattle.wire.specs.Layout.{Layout}
 use Rattle.wire.specs.Records.{Ans, refused, Parsed}
 use Rattle.wire.specs.Reading.{Reader, readWhole, endOf}
-use Rattle.wire.specs.Grammar.{Token, Spells, Starts}
+use Rattle.wire.specs.Grammar.{Token, Spells, Stands, Starts}
+use Rattle.wire.specs.Editions.{Later, Ours, Foreign}
 use Rattle.format.specs.Kinds.{isKind, layoutOf, readKind}
 use Rattle.format.specs.Refused.{RefusesKind}
 
@@ -35,6 +36,12 @@ pub record Ends (kind : ℕ) (src : List ℕ) (at : ℕ) (r : Measure) : Type 0 
   -- a legal record of which the input has only the beginning is Short
   pub cut-is-short : {ts : List Token} (y : ℕ) (ys : List ℕ) → at ≤ length src → Spells (layoutOf kind) ts (drop at src ++ (y ∷ ys))
       → (place : ℕ) × (needed : ℕ) × (r ≡ Measure.No (short place needed))
+  -- a record of a later edition that starts there, with anything after it: if its codes and arms are all ours, its end is answered
+  pub ours-has-end : {l′ : Layout} {ts : List Token} {bs : List ℕ} → isKind kind ≡ true → (x : Later (layoutOf kind) l′) (d : Spells l′ ts bs) → Stands src at bs → Ours x d
+      → r ≡ Measure.Size (at + length bs)
+  -- and any other is refused at the first code or arm that is not ours, which lies in the record
+  pub not-ours-has-no-end : {l′ : Layout} {ts : List Token} {bs : List ℕ} → isKind kind ≡ true → (x : Later (layoutOf kind) l′) (d : Spells l′ ts bs) → Stands src at bs → (Ours x d → ⊥)
+      → (f : Refusal) × Foreign (layoutOf kind) src at (at + length bs) f × (r ≡ Measure.No f)
 
 -- what a reader of whole records of any kind answers: a number that is no kind is refused before any byte is looked at
 unfoldable pub readKindWhole : (kind : ℕ) → Reader Parsed
@@ -60,3 +67,9 @@ pub record WholeEnds (kind : ℕ) (src : List ℕ) (at : ℕ) (r : Measure) : Ty
   -- and what says so is answered
   pub first-is-refusal : {f : Refusal} → RefusesKind kind src at f → r ≡ Measure.No f
   pub tail-is-trailing : {e : ℕ} → Starts (layoutOf kind) src at e → e < length src → r ≡ Measure.No (trailing e (length src - e))
+  -- a record of a later edition that is all there is: if its codes and arms are all ours, its end is answered
+  pub ours-has-end : {l′ : Layout} {ts : List Token} {bs : List ℕ} → isKind kind ≡ true → (x : Later (layoutOf kind) l′) (d : Spells l′ ts bs) → drop at src ≡ bs → Ours x d
+      → r ≡ Measure.Size (at + length bs)
+  -- and any other is refused at the first code or arm that is not ours, which lies in the record
+  pub not-ours-has-no-end : {l′ : Layout} {ts : List Token} {bs : List ℕ} → isKind kind ≡ true → (x : Later (layoutOf kind) l′) (d : Spells l′ ts bs) → Stands src at bs → (Ours x d → ⊥)
+      → (f : Refusal) × Foreign (layoutOf kind) src at (at + length bs) f × (r ≡ Measure.No f)
