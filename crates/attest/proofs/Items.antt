@@ -3,8 +3,11 @@
 use Prim.Native.Nat.{ℕ, zero, suc, _≤_, _<_}
 use native.Mathlib.Omega.{arith}
 use mathlib.Core.Path.{_≡_, refl, sym, ap, _∙_}
+use mathlib.Core.Bool.{Bool, true, false, cond}
 use mathlib.Core.List.{List, [], _∷_}
 use lib.ListN.{length}
+use lib.Dec.{eqb}
+use borrow.Author.Tests.{eqb-true}
 use Rattle.faults.specs.Faults.{noField}
 use Rattle.wire.specs.declared.choice.Choice.{Choice}
 use Rattle.wire.specs.declared.choice.Choice.the-variants.{Nothing, The}
@@ -12,24 +15,27 @@ use Rattle.wire.specs.declared.measure.Measure.{Measure}
 use Rattle.wire.specs.Answers.{measureAnswer}
 use Rattle.wire.specs.Bytes.{Bytes}
 use Rattle.wire.specs.Layout.{Rule, Layout, arm, number, buffer, _then_}
-use Rattle.wire.specs.Records.{Part, found, refused, parsed}
+use Rattle.wire.specs.Records.{Part, num, tag, span, found, refused, parsed}
 use Rattle.wire.specs.Reading.{read, readWhole}
-use Rattle.wire.specs.Grammar.{Token, value, held, bytes, Spells, holds, says, sizes, placed, shown}
-use Rattle.wire.specs.Unions.{union}
+use Rattle.wire.specs.Grammar.{Token, value, bytes, Spells, holds, says, sizes, placed, shown}
+use Rattle.wire.specs.Unions.{Row, armOf, union}
+use Rattle.wire.specs.Unions as unions
 use Rattle.wire.specs.Fields.{partOf, sizeOf}
-use Rattle.wire.specs.Items.{itemOf, joined, ListPart, here, past-arm, past-number, past-buffer}
+use Rattle.wire.specs.Items.{itemOf, joined, here, past-arm, past-number, past-buffer}
 use Rattle.wire.proofs.Answers.{measure-answer-once}
+use Rattle.wire.proofs.Steps.{clash}
 use Rattle.wire.proofs.Split.{no-arm-no-record}
 use Rattle.wire.proofs.Prefix.{accepted-is-legal}
+use Rattle.wire.proofs.Whole.{whole-is-read}
 use Rattle.wire.proofs.ListsKept.{read-records-list-is-legal}
 use Rattle.wire.proofs.ItemsSpelled as spelled
 use Rattle.codes.specs.Codes.{attestQuote}
 use Rattle.format.specs.declared.list.ListOf.the-variants.{PcrSelection}
-use Rattle.format.specs.Kinds.{itemLayout, mostItems, tpmsPcrSelection, tpmlPcrSelection, tpmsClockInfo, tpmsQuoteInfo, tpmuAttestArm, tpmuAttestBody, tpmuAttest, tpmsAttest}
+use Rattle.format.specs.Kinds.{itemLayout, mostItems, tpmsPcrSelection, tpmlPcrSelection, tpmsClockInfo, tpmsQuoteInfo, tpmuAttestTable, tpmuAttestArm, tpmuAttestBody, tpmuAttest, tpmsAttest}
 use Rattle.attest.specs.declared.list.TpmlPcrSelection.{TpmlPcrSelection}
 use Rattle.attest.specs.declared.tpmu.TpmuAttest.{TpmuAttest}
 use Rattle.attest.specs.declared.attestation.TpmsAttest.{TpmsAttest}
-use Rattle.attest.specs.Parts.{tpmlPcrSelectionParts, tpmuAttestParts, tpmuAttestLists, tpmsAttestParts}
+use Rattle.attest.specs.Parts.{tpmlPcrSelectionParts, tpmsQuoteInfoParts, tpmuAttestParts, tpmuAttestLists, tpmsAttestParts}
 use Rattle.attest.specs.Items.{ListsOf, no-list, one-list, LegalLists, without, with-one, itemCount, listItems, ReadWithLists, attestation, selections}
 
 -- ---- the lists of a record are those of its layout
@@ -44,14 +50,17 @@ unfolding tpmlPcrSelection
 lists-of-a-selection-list x = one-list here
 
 -- the arm that a legal union holds is the one that its selector chooses
-held-is-chosen : (c : Choice) (body : ℕ → Layout) (v : ℕ) {t : ℕ} {ts us : List Token} {bs : List ℕ} → Spells (union c body v) ts bs → ts ≡ held t ∷ us → c ≡ The t
-held-is-chosen Nothing body v d same = absurd (no-arm-no-record d)
-held-is-chosen (The u) body v (holds d) same = cc
+held-is-chosen : (c : Choice) (body : ℕ → Layout) (v : ℕ) (src : List ℕ) (ps : List Part) {ts : List Token} {bs : List ℕ} → Spells (union c body v) ts bs → ts ≡ shown src ps → c ≡ The (unions.held ps)
+held-is-chosen Nothing body v src ps d same = absurd (no-arm-no-record d)
+held-is-chosen (The u) body v src [] (holds d) same = absurd (clash (cc))
+held-is-chosen (The u) body v src (num n ∷ ps) (holds d) same = absurd (clash (cc))
+held-is-chosen (The u) body v src (tag t ∷ ps) (holds d) same = cc
+held-is-chosen (The u) body v src (span start len ∷ ps) (holds d) same = absurd (clash (cc))
 
 -- so where one holds a quote, the layout has a quote there
-quote-is-due : (v : ℕ) {ts us : List Token} {bs : List ℕ} → Spells (tpmuAttest v) ts bs → ts ≡ held attestQuote ∷ us → tpmuAttest v ≡ arm v attestQuote tpmsQuoteInfo
+quote-is-due : (v : ℕ) (src : List ℕ) (ps : List Part) {ts : List Token} {bs : List ℕ} → Spells (tpmuAttest v) ts bs → ts ≡ shown src (tag attestQuote ∷ ps) → tpmuAttest v ≡ arm v attestQuote tpmsQuoteInfo
 unfolding tpmuAttest
-quote-is-due v d same = rw (held-is-chosen (tpmuAttestArm v) (λ t. tpmuAttestBody t) v d same)
+quote-is-due v src ps d same = rw (held-is-chosen (tpmuAttestArm v) (λ t. tpmuAttestBody t) v src (tag attestQuote ∷ ps) d same)
 
 -- and of what is attested only a quote has a list
 lists-of-the-attested : (v : ℕ) (u : TpmuAttest) (src : List ℕ) {ts : List Token} {bs : List ℕ} → Spells (tpmuAttest v) ts bs → ts ≡ shown src (tpmuAttestParts u)
@@ -59,7 +68,7 @@ lists-of-the-attested : (v : ℕ) (u : TpmuAttest) (src : List ℕ) {ts : List T
 unfolding tpmsQuoteInfo tpmlPcrSelection _then_
 lists-of-the-attested v (TpmuAttest.Certify i) src d same = no-list
 lists-of-the-attested v (TpmuAttest.Creation i) src d same = no-list
-lists-of-the-attested v (TpmuAttest.Quote i) src d same = rw (quote-is-due v d same) (one-list (past-arm here))
+lists-of-the-attested v (TpmuAttest.Quote i) src d same = rw (quote-is-due v src (tpmsQuoteInfoParts i) d same) (one-list (past-arm here))
 lists-of-the-attested v (TpmuAttest.CommandAudit i) src d same = no-list
 lists-of-the-attested v (TpmuAttest.SessionAudit i) src d same = no-list
 lists-of-the-attested v (TpmuAttest.Time i) src d same = no-list
@@ -111,6 +120,33 @@ lists-of-a-read-attestation x src at b there =
     let (cs, attested) = attested-is-legal x src (d .spells) (sym showing) in
     behind-the-firmware x (lists-of-the-attested (x .«attest_type» .0) (x .attested) src attested refl)
 
+-- ---- an attestation that was read holds the arm of its type
+
+-- each row's arm has its selector's code for a number
+abbrev Own : List Row → Type 0
+Own [] = Unit {0}
+Own (r ∷ rs) = (r .selector ≡ r .chooses) × Own rs
+
+own-arm-is-its-selector : (rs : List Row) → Own rs → (v t : ℕ) → armOf rs v ≡ The t → v ≡ t
+own-arm-is-its-selector [] o v t e = absurd (clash (cc))
+own-arm-is-its-selector (r ∷ rs) o v t e = go (eqb v (r .selector)) refl e (λ later. own-arm-is-its-selector rs (o .1) v t later)
+  where
+    go : (s : Bool) → eqb v (r .selector) ≡ s → cond s (The (r .chooses)) (armOf rs v) ≡ The t → (armOf rs v ≡ The t → v ≡ t) → v ≡ t
+    go true q e rest = let same = eqb-true v (r .selector) q in let own = o .0 in cc
+    go false q e rest = rest e
+
+-- so a record of another type than a quote's has no list
+pub read-attestation-holds-the-arm-of-its-type : (x : TpmsAttest) (src : List ℕ) (at : ℕ) {e : ℕ} → Bytes src → read tpmsAttest src at ≡ parsed (tpmsAttestParts x) e
+    → x .«attest_type» .0 ≡ unions.held (tpmuAttestParts (x .attested))
+unfolding tpmuAttest tpmuAttestArm
+read-attestation-holds-the-arm-of-its-type x src at b there =
+    let v = x .«attest_type» .0 in
+    let ps = tpmuAttestParts (x .attested) in
+    let (d, same, showing) = accepted-is-legal tpmsAttest src at b there in
+    let (cs, attested) = attested-is-legal x src (d .spells) (sym showing) in
+    own-arm-is-its-selector tpmuAttestTable (refl, (refl, (refl, (refl, (refl, (refl, (refl, (refl, tt)))))))) v (unions.held ps)
+    (held-is-chosen (tpmuAttestArm v) (λ t. tpmuAttestBody t) v src ps attested refl)
+
 -- ---- the lists of a record that was read are legal
 
 -- over every layout, parts and lists
@@ -123,6 +159,10 @@ read-records-lists-are-legal l src at b there (one-list p) = with-one (read-reco
 pub lists-that-were-read-are-legal : {src : List ℕ} {ls : List Part} → Bytes src → ReadWithLists src ls → LegalLists src (mostItems PcrSelection) (itemLayout PcrSelection) ls
 lists-that-were-read-are-legal {src} b (attestation x at e told) = read-records-lists-are-legal tpmsAttest src at b (sym told) (lists-of-a-read-attestation x src at b (sym told))
 lists-that-were-read-are-legal {src} b (selections x at e told) = read-records-lists-are-legal tpmlPcrSelection src at b (sym told) (lists-of-a-selection-list x)
+
+-- a record that was found whole is found as a prefix
+pub found-whole-is-found : (l : Layout) (src : List ℕ) (at : ℕ) {e : ℕ} {ps : List Part} → parsed ps e ≡ readWhole l src at → parsed ps e ≡ read l src at
+found-whole-is-found l src at told = sym (whole-is-read l src at (sym told) .0)
 
 -- ---- the items of such lists
 
