@@ -1,4 +1,4 @@
-pub mod Errors
+pub mod Arms
 pub mod Tables
 pub mod Lists
 pub mod Greatest

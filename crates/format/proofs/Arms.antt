@@ -1,4 +1,4 @@
--- Errors that readers of these records have made, each against what our tables say. Assumes nothing.
+-- Arms that readers of these records have got wrong, each as our tables have it. Assumes nothing.
 use mathlib.Core.Path.{_≡_, refl}
 use Rattle.wire.specs.Layout.{stop, noArm, arm, one, free}
 use Rattle.codes.specs.Codes.{aes, null, rsaes}
