@@ -1,4 +1,4 @@
-pub mod Arms
+pub mod ArmsMistaken
 pub mod Tables
 pub mod Lists
 pub mod Greatest
