@@ -13,10 +13,9 @@ use Rattle.wire.specs.declared.measure.Measure.{Measure}
 use Rattle.wire.specs.Answers.{measureAnswer}
 use Rattle.wire.specs.Bytes.{Bytes}
 use Rattle.wire.specs.Records.{Ans, refused, Parsed, parsed, left}
-use Rattle.wire.specs.Reading.{read, readWhole, endOf}
+use Rattle.wire.specs.Reading.{read, readWhole, endOf, IsShort}
 use Rattle.wire.specs.Grammar.{Token, Spells, Stands, placed, shown}
 use Rattle.wire.specs.Editions.{Ours, Newer, Foreign}
-use Rattle.wire.proofs.Stable.{IsShort}
 use Rattle.wire.proofs.Answers.{measure-answer-once}
 use Rattle.wire.proofs.Whole.{refused-is-refused-whole}
 use Rattle.wire.proofs.Ours.{ours-kept, legal-is-ours}

@@ -1,34 +1,31 @@
 -- Where a record ends, by its kind's number: from the equation with the reader to what it says in the grammar's words. Assumes nothing.
-use Prim.Native.Nat.{ℕ, _+_, _-_, _≤_, _<_}
-use native.Mathlib.Omega.{arith}
+use Prim.Native.Nat.{ℕ, _+_, _-_, _≤_}
 use mathlib.Core.Path.{_≡_, refl, sym, ap, _∙_}
-use mathlib.Core.Logic.{_⊎_, inl, inr}
-use mathlib.Core.Bool.{Bool, true, false}
-use mathlib.Core.List.{List, [], _∷_, _++_, append-nil}
-use lib.ListN.{length, take, drop, length-append, length-drop, take-append-drop}
+use mathlib.Core.Logic.{_⊎_}
+use mathlib.Core.Bool.{true}
+use mathlib.Core.List.{List, _∷_, _++_}
+use lib.ListN.{length, take, drop, take-append-drop}
 use lib.Seq.{length-take-le}
-use lib.Dec.{leb}
-use borrow.Author.Tests.{lt-leb, leb-true, leb-false}
+use Rattle.faults.specs.declared.Fault.the-variants.{Short}
 use Rattle.faults.specs.declared.Refusal.{Refusal}
 use Rattle.faults.specs.Faults.{short}
 use Rattle.wire.specs.declared.measure.Measure.{Measure}
 use Rattle.wire.specs.Answers.{measureAnswer}
 use Rattle.wire.specs.Bytes.{Bytes}
 use Rattle.wire.specs.Layout.{Layout}
-use Rattle.wire.specs.Records.{Ans, found, refused, Parsed, parsed, left}
-use Rattle.wire.specs.Reading.{read, readWhole, endOf}
-use Rattle.wire.specs.Grammar.{Token, Spells, Stands, Starts, placed}
+use Rattle.wire.specs.Records.{Ans, found, refused, Parsed}
+use Rattle.wire.specs.Reading.{read, endOf}
+use Rattle.wire.specs.Grammar.{Token, Spells, Stands, Starts}
+use Rattle.wire.specs.Editions.{Later, Ours, Newer, Foreign}
 use Rattle.wire.proofs.Answers.{measure-answer-once}
-use Rattle.wire.proofs.Stand.{bytes-front, stands-left}
+use Rattle.wire.proofs.Stand.{bytes-front}
 use Rattle.wire.proofs.Steps.{found-refused, found-same, refused-same, next-found}
-use Rattle.wire.proofs.Prefix.{nothing}
 use Rattle.wire.proofs.Stable.{cut-short}
+use Rattle.wire.proofs.Ours.{ours-kept, ours-is-read, not-ours-is-refused, later-cut}
 use Rattle.format.specs.Kinds.{isKind, layoutOf, readKind}
-use Rattle.format.specs.Refused.{RefusesKind}
 use Rattle.format.proofs.Numbered.{of-kind}
 use Rattle.format.proofs.Legal.{spelled-is-kind, legal-is-read-by-number, read-by-number-is-legal, refusal-by-number-is-first, first-is-refusal-by-number}
 use Rattle.records.specs.Ends.{Ends}
-use Rattle.records.proofs.Promises as promises
 
 -- no end is a refusal, and that one
 pub no-end : (a : Ans Parsed) {f : Refusal} → endOf a ≡ refused f → a ≡ refused f
@@ -62,14 +59,37 @@ module _ (k : ℕ) (src : List ℕ) (at : ℕ) (r : Measure) (answer : measureAn
       by (found p) e = absurd (none (p .stops) (read-by-number-is-legal k src at b e))
       by (refused f) e = (f, answers (Measure.No f) (ap endOf e))
 
-  cut-is : {ts : List Token} (y : ℕ) (ys : List ℕ) → at ≤ length src → Spells (layoutOf k) ts (drop at src ++ (y ∷ ys)) → (place : ℕ) × (needed : ℕ) × (r ≡ Measure.No (short place needed))
-  cut-is y ys inside d =
-      let before = take at src in
-      let size : length before ≡ at = length-take-le at src inside in
-      let whole : before ++ drop at src ≡ src = take-append-drop at src in
-      let (place, needed, p) = cut-short before (drop at src) y ys (bytes-front before (drop at src) (rw whole b)) d in
-      let there : read (layoutOf k) src at ≡ refused (short place needed) = rw (whole, size) at p in
-      (place, needed, answers (Measure.No (short place needed)) (ap endOf (sym (of-kind k src at refl (spelled-is-kind k d)) ∙ there)))
+  -- what a reader of the layout answers is answered, if the number is a kind's
+  by-layout : {s : Measure} → isKind k ≡ true → endOf (read (layoutOf k) src at) ≡ measureAnswer s → r ≡ s
+  by-layout {s} some e = answers s (ap endOf (sym (of-kind k src at refl some)) ∙ e)
+
+  module _ (inside : at ≤ length src) where
+    -- the input is what stands in front of the place, and what stands from there on
+    abbrev front : List ℕ
+    front = take at src
+
+    front-size : length front ≡ at
+    front-size = length-take-le at src inside
+
+    front-bytes : Bytes front
+    front-bytes = bytes-front front (drop at src) (rw (take-append-drop at src) b)
+
+    cut-is : {ts : List Token} (y : ℕ) (ys : List ℕ) → Spells (layoutOf k) ts (drop at src ++ (y ∷ ys)) → (place : ℕ) × (needed : ℕ) × (r ≡ Measure.No (short place needed))
+    cut-is y ys d =
+        let (place, needed, p) = cut-short front (drop at src) y ys front-bytes d in
+        (place, needed, by-layout (spelled-is-kind k d) (ap endOf (rw (take-append-drop at src, front-size) at p)))
+
+    later-cut-is : {l′ : Layout} {ts : List Token} (y : ℕ) (ys : List ℕ) → isKind k ≡ true → Later (layoutOf k) l′ → Spells l′ ts (drop at src ++ (y ∷ ys)) → (f : Refusal) × (r ≡ Measure.No f) × ((f .fault ≡ Short) ⊎ Newer f)
+    later-cut-is y ys some x d =
+        let (f, p, why) = later-cut front (drop at src) y ys front-bytes x d in
+        (f, by-layout some (ap endOf (rw (take-append-drop at src, front-size) at p)), why)
+
+  ours-ends : {l′ : Layout} {ts : List Token} {bs : List ℕ} (x : Later (layoutOf k) l′) (d : Spells l′ ts bs) → Stands src at bs → Ours x d → r ≡ Measure.Size (at + length bs)
+  ours-ends x d stands all = by-layout (spelled-is-kind k (ours-kept x d all .0)) (ap endOf (ours-is-read x d stands all))
+
+  not-ours-refused : {l′ : Layout} {ts : List Token} {bs : List ℕ} → isKind k ≡ true → (x : Later (layoutOf k) l′) (d : Spells l′ ts bs) → Stands src at bs → (Ours x d → ⊥)
+      → (f : Refusal) × Foreign (layoutOf k) src at (at + length bs) f × (r ≡ Measure.No f)
+  not-ours-refused some x d stands foreign = let (f, g, p) = not-ours-is-refused x d stands foreign in (f, g, by-layout some (ap endOf p))
 
   pub ends : Ends k src at r
   ends =
@@ -81,7 +101,8 @@ module _ (k : ℕ) (src : List ℕ) (at : ℕ) (r : Measure) (answer : measureAn
         none-means-refused = none-refused;
         refusal-is-first = λ e. refusal-by-number-is-first k src at b (no-end (readKind k src at) (told e));
         first-is-refusal = λ {f} d. answers (Measure.No f) (ap endOf (first-is-refusal-by-number k d));
-        cut-is-short = cut-is;
-        ours-has-end = λ some x d stands all. answers (Measure.Size _) (promises.ours-has-end k some x d stands all);
-        not-ours-has-no-end = λ some x d stands foreign. let (f, g, p) = promises.not-ours-has-no-end k some x d stands foreign in (f, g, answers (Measure.No f) p);
+        cut-is-short = λ y ys inside d. cut-is inside y ys d;
+        ours-has-end = ours-ends;
+        not-ours-has-no-end = not-ours-refused;
+        later-cut-is-refused = λ y ys some inside x d. later-cut-is inside y ys some x d;
       }

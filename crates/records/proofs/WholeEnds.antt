@@ -86,8 +86,8 @@ module _ (k : ℕ) (src : List ℕ) (at : ℕ) (r : Measure) (answer : measureAn
   tail-trailing : {e : ℕ} → Starts (layoutOf k) src at e → e < length src → r ≡ Measure.No (trailing e (length src - e))
   tail-trailing {e} d more = by-layout (spelled-is-kind k (d .spells)) (ap endOf (whole.why-is-whole-refusal (layoutOf k) src at (left-over e d more refl)))
 
-  ours-end : {l′ : Layout} {ts : List Token} {bs : List ℕ} → isKind k ≡ true → (x : Later (layoutOf k) l′) (d : Spells l′ ts bs) → drop at src ≡ bs → Ours x d → r ≡ Measure.Size (at + length bs)
-  ours-end some x d alone all = by-layout some (ap endOf (ours.ours-is-read-whole src at x d alone all))
+  ours-end : {l′ : Layout} {ts : List Token} {bs : List ℕ} (x : Later (layoutOf k) l′) (d : Spells l′ ts bs) → drop at src ≡ bs → Ours x d → r ≡ Measure.Size (at + length bs)
+  ours-end x d alone all = by-layout (spelled-is-kind k (ours.ours-kept x d all .0)) (ap endOf (ours.ours-is-read-whole src at x d alone all))
 
   not-ours-refused : {l′ : Layout} {ts : List Token} {bs : List ℕ} → isKind k ≡ true → (x : Later (layoutOf k) l′) (d : Spells l′ ts bs) → Stands src at bs → (Ours x d → ⊥)
       → (f : Refusal) × Foreign (layoutOf k) src at (at + length bs) f × (r ≡ Measure.No f)

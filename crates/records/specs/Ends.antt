@@ -2,18 +2,19 @@
 use Prim.Native.Nat.{ℕ, _+_, _-_, _≤_, _<_}
 use mathlib.Core.Path.{_≡_}
 use mathlib.Core.Logic.{_⊎_}
-use mathlib.Core.Bool.{cond}
+use mathlib.Core.Bool.{true, cond}
 use mathlib.Core.List.{List, _∷_, _++_}
 use lib.ListN.{length, drop}
+use Rattle.faults.specs.declared.Fault.the-variants.{Short}
 use Rattle.faults.specs.declared.Refusal.{Refusal}
 use Rattle.faults.specs.Faults.{short, badKind, trailing}
 use Rattle.wire.specs.declared.measure.Measure.{Measure}
 use Rattle.wire.specs.Answers.{measureAnswer}
 use Rattle.wire.specs.Layout.{Layout}
-use Rattle.wire.specs.Records.{Ans, refused, Parsed}
+use Rattle.wire.specs.Records.{refused, Parsed}
 use Rattle.wire.specs.Reading.{Reader, readWhole, endOf}
 use Rattle.wire.specs.Grammar.{Token, Spells, Stands, Starts}
-use Rattle.wire.specs.Editions.{Later, Ours, Foreign}
+use Rattle.wire.specs.Editions.{Later, Ours, Newer, Foreign}
 use Rattle.format.specs.Kinds.{isKind, layoutOf, readKind}
 use Rattle.format.specs.Refused.{RefusesKind}
 
@@ -37,11 +38,14 @@ pub record Ends (kind : ℕ) (src : List ℕ) (at : ℕ) (r : Measure) : Type 0 
   pub cut-is-short : {ts : List Token} (y : ℕ) (ys : List ℕ) → at ≤ length src → Spells (layoutOf kind) ts (drop at src ++ (y ∷ ys))
       → (place : ℕ) × (needed : ℕ) × (r ≡ Measure.No (short place needed))
   -- a record of a later edition that starts there, with anything after it: if its codes and arms are all ours, its end is answered
-  pub ours-has-end : {l′ : Layout} {ts : List Token} {bs : List ℕ} → isKind kind ≡ true → (x : Later (layoutOf kind) l′) (d : Spells l′ ts bs) → Stands src at bs → Ours x d
+  pub ours-has-end : {l′ : Layout} {ts : List Token} {bs : List ℕ} (x : Later (layoutOf kind) l′) (d : Spells l′ ts bs) → Stands src at bs → Ours x d
       → r ≡ Measure.Size (at + length bs)
   -- and any other is refused at the first code or arm that is not ours, which lies in the record
   pub not-ours-has-no-end : {l′ : Layout} {ts : List Token} {bs : List ℕ} → isKind kind ≡ true → (x : Later (layoutOf kind) l′) (d : Spells l′ ts bs) → Stands src at bs → (Ours x d → ⊥)
       → (f : Refusal) × Foreign (layoutOf kind) src at (at + length bs) f × (r ≡ Measure.No f)
+  -- and one of which the input has only the beginning is Short, or refused for a code or an arm that is not ours
+  pub later-cut-is-refused : {l′ : Layout} {ts : List Token} (y : ℕ) (ys : List ℕ) → isKind kind ≡ true → at ≤ length src → Later (layoutOf kind) l′ → Spells l′ ts (drop at src ++ (y ∷ ys))
+      → (f : Refusal) × (r ≡ Measure.No f) × ((f .fault ≡ Short) ⊎ Newer f)
 
 -- what a reader of whole records of any kind answers: a number that is no kind is refused before any byte is looked at
 unfoldable pub readKindWhole : (kind : ℕ) → Reader Parsed
@@ -68,7 +72,7 @@ pub record WholeEnds (kind : ℕ) (src : List ℕ) (at : ℕ) (r : Measure) : Ty
   pub first-is-refusal : {f : Refusal} → RefusesKind kind src at f → r ≡ Measure.No f
   pub tail-is-trailing : {e : ℕ} → Starts (layoutOf kind) src at e → e < length src → r ≡ Measure.No (trailing e (length src - e))
   -- a record of a later edition that is all there is: if its codes and arms are all ours, its end is answered
-  pub ours-has-end : {l′ : Layout} {ts : List Token} {bs : List ℕ} → isKind kind ≡ true → (x : Later (layoutOf kind) l′) (d : Spells l′ ts bs) → drop at src ≡ bs → Ours x d
+  pub ours-has-end : {l′ : Layout} {ts : List Token} {bs : List ℕ} (x : Later (layoutOf kind) l′) (d : Spells l′ ts bs) → drop at src ≡ bs → Ours x d
       → r ≡ Measure.Size (at + length bs)
   -- and any other is refused at the first code or arm that is not ours, which lies in the record
   pub not-ours-has-no-end : {l′ : Layout} {ts : List Token} {bs : List ℕ} → isKind kind ≡ true → (x : Later (layoutOf kind) l′) (d : Spells l′ ts bs) → Stands src at bs → (Ours x d → ⊥)
