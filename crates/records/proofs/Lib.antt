@@ -1,5 +1,6 @@
 pub mod Promises
 pub mod Readers
+pub mod Promised
 pub mod Ends
 pub mod WholeEnds
 pub mod Editions

@@ -1,32 +1,32 @@
 // A record of any kind by the kind's number, for callers that only need to know where it ends.
-use attest::attestation::TpmsAttest;
+use crate::read::tpml_pcr_selection_read;
+use crate::read::tpms_attest_read;
+use crate::read::tpmt_ecc_scheme_read;
+use crate::read::tpmt_ha_read;
+use crate::read::tpmt_kdf_scheme_read;
+use crate::read::tpmt_keyedhash_scheme_read;
+use crate::read::tpmt_public_parms_read;
+use crate::read::tpmt_public_read;
+use crate::read::tpmt_rsa_decrypt_read;
+use crate::read::tpmt_rsa_scheme_read;
+use crate::read::tpmt_sensitive_read;
+use crate::read::tpmt_sig_scheme_read;
+use crate::read::tpmt_signature_read;
+use crate::read::tpmt_sym_def_read;
 use attest::attestation::TpmsAttestRead;
-use attest::list::TpmlPcrSelection;
 use attest::list::TpmlPcrSelectionRead;
-use ciphers::tpmt::TpmtHa;
 use ciphers::tpmt::TpmtHaRead;
-use ciphers::tpmt::TpmtSymDef;
 use ciphers::tpmt::TpmtSymDefRead;
 use faults::Refusal;
-use keys::tpmt::TpmtPublic;
 use keys::tpmt::TpmtPublicRead;
-use parameters::tpmt::TpmtPublicParms;
 use parameters::tpmt::TpmtPublicParmsRead;
-use schemes::tpmt::TpmtEccScheme;
 use schemes::tpmt::TpmtEccSchemeRead;
-use schemes::tpmt::TpmtKdfScheme;
 use schemes::tpmt::TpmtKdfSchemeRead;
-use schemes::tpmt::TpmtKeyedhashScheme;
 use schemes::tpmt::TpmtKeyedhashSchemeRead;
-use schemes::tpmt::TpmtRsaDecrypt;
 use schemes::tpmt::TpmtRsaDecryptRead;
-use schemes::tpmt::TpmtRsaScheme;
 use schemes::tpmt::TpmtRsaSchemeRead;
-use schemes::tpmt::TpmtSigScheme;
 use schemes::tpmt::TpmtSigSchemeRead;
-use sensitive::tpmt::TpmtSensitive;
 use sensitive::tpmt::TpmtSensitiveRead;
-use signatures::tpmt::TpmtSignature;
 use signatures::tpmt::TpmtSignatureRead;
 use wire::measure::Measure;
 use wire::widen::wide_byte;
@@ -39,7 +39,7 @@ ghost use Rattle.records.specs.Ends.{Ends};
 fn tpmt_ha_end(s: &[u8], at: usize) -> Measure
     ensures { λ r. ⌜ measureAnswer r ≡ endOf (read tpmtHa (now (s .entry)) at) ⌝ }
 {
-    match TpmtHa::unmarshal(s, at) {
+    match tpmt_ha_read(s, at) {
         TpmtHaRead::Found(_, e) => Measure::Size(e),
         TpmtHaRead::No(f) => Measure::No(f),
     }
@@ -48,7 +48,7 @@ fn tpmt_ha_end(s: &[u8], at: usize) -> Measure
 fn tpmt_sym_def_end(s: &[u8], at: usize) -> Measure
     ensures { λ r. ⌜ measureAnswer r ≡ endOf (read tpmtSymDef (now (s .entry)) at) ⌝ }
 {
-    match TpmtSymDef::unmarshal(s, at) {
+    match tpmt_sym_def_read(s, at) {
         TpmtSymDefRead::Found(_, e) => Measure::Size(e),
         TpmtSymDefRead::No(f) => Measure::No(f),
     }
@@ -57,7 +57,7 @@ fn tpmt_sym_def_end(s: &[u8], at: usize) -> Measure
 fn tpmt_kdf_scheme_end(s: &[u8], at: usize) -> Measure
     ensures { λ r. ⌜ measureAnswer r ≡ endOf (read tpmtKdfScheme (now (s .entry)) at) ⌝ }
 {
-    match TpmtKdfScheme::unmarshal(s, at) {
+    match tpmt_kdf_scheme_read(s, at) {
         TpmtKdfSchemeRead::Found(_, e) => Measure::Size(e),
         TpmtKdfSchemeRead::No(f) => Measure::No(f),
     }
@@ -66,7 +66,7 @@ fn tpmt_kdf_scheme_end(s: &[u8], at: usize) -> Measure
 fn tpmt_keyedhash_scheme_end(s: &[u8], at: usize) -> Measure
     ensures { λ r. ⌜ measureAnswer r ≡ endOf (read tpmtKeyedhashScheme (now (s .entry)) at) ⌝ }
 {
-    match TpmtKeyedhashScheme::unmarshal(s, at) {
+    match tpmt_keyedhash_scheme_read(s, at) {
         TpmtKeyedhashSchemeRead::Found(_, e) => Measure::Size(e),
         TpmtKeyedhashSchemeRead::No(f) => Measure::No(f),
     }
@@ -75,7 +75,7 @@ fn tpmt_keyedhash_scheme_end(s: &[u8], at: usize) -> Measure
 fn tpmt_sig_scheme_end(s: &[u8], at: usize) -> Measure
     ensures { λ r. ⌜ measureAnswer r ≡ endOf (read tpmtSigScheme (now (s .entry)) at) ⌝ }
 {
-    match TpmtSigScheme::unmarshal(s, at) {
+    match tpmt_sig_scheme_read(s, at) {
         TpmtSigSchemeRead::Found(_, e) => Measure::Size(e),
         TpmtSigSchemeRead::No(f) => Measure::No(f),
     }
@@ -84,7 +84,7 @@ fn tpmt_sig_scheme_end(s: &[u8], at: usize) -> Measure
 fn tpmt_rsa_scheme_end(s: &[u8], at: usize) -> Measure
     ensures { λ r. ⌜ measureAnswer r ≡ endOf (read tpmtAsymScheme (now (s .entry)) at) ⌝ }
 {
-    match TpmtRsaScheme::unmarshal(s, at) {
+    match tpmt_rsa_scheme_read(s, at) {
         TpmtRsaSchemeRead::Found(_, e) => Measure::Size(e),
         TpmtRsaSchemeRead::No(f) => Measure::No(f),
     }
@@ -93,7 +93,7 @@ fn tpmt_rsa_scheme_end(s: &[u8], at: usize) -> Measure
 fn tpmt_ecc_scheme_end(s: &[u8], at: usize) -> Measure
     ensures { λ r. ⌜ measureAnswer r ≡ endOf (read tpmtAsymScheme (now (s .entry)) at) ⌝ }
 {
-    match TpmtEccScheme::unmarshal(s, at) {
+    match tpmt_ecc_scheme_read(s, at) {
         TpmtEccSchemeRead::Found(_, e) => Measure::Size(e),
         TpmtEccSchemeRead::No(f) => Measure::No(f),
     }
@@ -102,7 +102,7 @@ fn tpmt_ecc_scheme_end(s: &[u8], at: usize) -> Measure
 fn tpmt_rsa_decrypt_end(s: &[u8], at: usize) -> Measure
     ensures { λ r. ⌜ measureAnswer r ≡ endOf (read tpmtAsymScheme (now (s .entry)) at) ⌝ }
 {
-    match TpmtRsaDecrypt::unmarshal(s, at) {
+    match tpmt_rsa_decrypt_read(s, at) {
         TpmtRsaDecryptRead::Found(_, e) => Measure::Size(e),
         TpmtRsaDecryptRead::No(f) => Measure::No(f),
     }
@@ -111,7 +111,7 @@ fn tpmt_rsa_decrypt_end(s: &[u8], at: usize) -> Measure
 fn tpmt_public_parms_end(s: &[u8], at: usize) -> Measure
     ensures { λ r. ⌜ measureAnswer r ≡ endOf (read tpmtPublicParms (now (s .entry)) at) ⌝ }
 {
-    match TpmtPublicParms::unmarshal(s, at) {
+    match tpmt_public_parms_read(s, at) {
         TpmtPublicParmsRead::Found(_, e) => Measure::Size(e),
         TpmtPublicParmsRead::No(f) => Measure::No(f),
     }
@@ -120,7 +120,7 @@ fn tpmt_public_parms_end(s: &[u8], at: usize) -> Measure
 fn tpmt_signature_end(s: &[u8], at: usize) -> Measure
     ensures { λ r. ⌜ measureAnswer r ≡ endOf (read tpmtSignature (now (s .entry)) at) ⌝ }
 {
-    match TpmtSignature::unmarshal(s, at) {
+    match tpmt_signature_read(s, at) {
         TpmtSignatureRead::Found(_, e) => Measure::Size(e),
         TpmtSignatureRead::No(f) => Measure::No(f),
     }
@@ -129,7 +129,7 @@ fn tpmt_signature_end(s: &[u8], at: usize) -> Measure
 fn tpmt_public_end(s: &[u8], at: usize) -> Measure
     ensures { λ r. ⌜ measureAnswer r ≡ endOf (read tpmtPublic (now (s .entry)) at) ⌝ }
 {
-    match TpmtPublic::unmarshal(s, at) {
+    match tpmt_public_read(s, at) {
         TpmtPublicRead::Found(_, e) => Measure::Size(e),
         TpmtPublicRead::No(f) => Measure::No(f),
     }
@@ -138,7 +138,7 @@ fn tpmt_public_end(s: &[u8], at: usize) -> Measure
 fn tpmt_sensitive_end(s: &[u8], at: usize) -> Measure
     ensures { λ r. ⌜ measureAnswer r ≡ endOf (read tpmtSensitive (now (s .entry)) at) ⌝ }
 {
-    match TpmtSensitive::unmarshal(s, at) {
+    match tpmt_sensitive_read(s, at) {
         TpmtSensitiveRead::Found(_, e) => Measure::Size(e),
         TpmtSensitiveRead::No(f) => Measure::No(f),
     }
@@ -147,7 +147,7 @@ fn tpmt_sensitive_end(s: &[u8], at: usize) -> Measure
 fn tpms_attest_end(s: &[u8], at: usize) -> Measure
     ensures { λ r. ⌜ measureAnswer r ≡ endOf (read tpmsAttest (now (s .entry)) at) ⌝ }
 {
-    match TpmsAttest::unmarshal(s, at) {
+    match tpms_attest_read(s, at) {
         TpmsAttestRead::Found(_, e) => Measure::Size(e),
         TpmsAttestRead::No(f) => Measure::No(f),
     }
@@ -156,7 +156,7 @@ fn tpms_attest_end(s: &[u8], at: usize) -> Measure
 fn tpml_pcr_selection_end(s: &[u8], at: usize) -> Measure
     ensures { λ r. ⌜ measureAnswer r ≡ endOf (read tpmlPcrSelection (now (s .entry)) at) ⌝ }
 {
-    match TpmlPcrSelection::unmarshal(s, at) {
+    match tpml_pcr_selection_read(s, at) {
         TpmlPcrSelectionRead::Found(_, e) => Measure::Size(e),
         TpmlPcrSelectionRead::No(f) => Measure::No(f),
     }

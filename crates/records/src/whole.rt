@@ -1,32 +1,32 @@
 // A record of any kind by the kind's number that is to be all there is, for callers that only need to know where it ends.
-use attest::attestation::TpmsAttest;
+use crate::read::tpml_pcr_selection_read_whole;
+use crate::read::tpms_attest_read_whole;
+use crate::read::tpmt_ecc_scheme_read_whole;
+use crate::read::tpmt_ha_read_whole;
+use crate::read::tpmt_kdf_scheme_read_whole;
+use crate::read::tpmt_keyedhash_scheme_read_whole;
+use crate::read::tpmt_public_parms_read_whole;
+use crate::read::tpmt_public_read_whole;
+use crate::read::tpmt_rsa_decrypt_read_whole;
+use crate::read::tpmt_rsa_scheme_read_whole;
+use crate::read::tpmt_sensitive_read_whole;
+use crate::read::tpmt_sig_scheme_read_whole;
+use crate::read::tpmt_signature_read_whole;
+use crate::read::tpmt_sym_def_read_whole;
 use attest::attestation::TpmsAttestRead;
-use attest::list::TpmlPcrSelection;
 use attest::list::TpmlPcrSelectionRead;
-use ciphers::tpmt::TpmtHa;
 use ciphers::tpmt::TpmtHaRead;
-use ciphers::tpmt::TpmtSymDef;
 use ciphers::tpmt::TpmtSymDefRead;
 use faults::Refusal;
-use keys::tpmt::TpmtPublic;
 use keys::tpmt::TpmtPublicRead;
-use parameters::tpmt::TpmtPublicParms;
 use parameters::tpmt::TpmtPublicParmsRead;
-use schemes::tpmt::TpmtEccScheme;
 use schemes::tpmt::TpmtEccSchemeRead;
-use schemes::tpmt::TpmtKdfScheme;
 use schemes::tpmt::TpmtKdfSchemeRead;
-use schemes::tpmt::TpmtKeyedhashScheme;
 use schemes::tpmt::TpmtKeyedhashSchemeRead;
-use schemes::tpmt::TpmtRsaDecrypt;
 use schemes::tpmt::TpmtRsaDecryptRead;
-use schemes::tpmt::TpmtRsaScheme;
 use schemes::tpmt::TpmtRsaSchemeRead;
-use schemes::tpmt::TpmtSigScheme;
 use schemes::tpmt::TpmtSigSchemeRead;
-use sensitive::tpmt::TpmtSensitive;
 use sensitive::tpmt::TpmtSensitiveRead;
-use signatures::tpmt::TpmtSignature;
 use signatures::tpmt::TpmtSignatureRead;
 use wire::measure::Measure;
 use wire::widen::wide_byte;
@@ -39,7 +39,7 @@ ghost use Rattle.records.specs.Ends.{readKindWhole, WholeEnds};
 fn tpmt_ha_whole_end(s: &[u8], at: usize) -> Measure
     ensures { λ r. ⌜ measureAnswer r ≡ endOf (readWhole tpmtHa (now (s .entry)) at) ⌝ }
 {
-    match TpmtHa::whole(s, at) {
+    match tpmt_ha_read_whole(s, at) {
         TpmtHaRead::Found(_, e) => Measure::Size(e),
         TpmtHaRead::No(f) => Measure::No(f),
     }
@@ -48,7 +48,7 @@ fn tpmt_ha_whole_end(s: &[u8], at: usize) -> Measure
 fn tpmt_sym_def_whole_end(s: &[u8], at: usize) -> Measure
     ensures { λ r. ⌜ measureAnswer r ≡ endOf (readWhole tpmtSymDef (now (s .entry)) at) ⌝ }
 {
-    match TpmtSymDef::whole(s, at) {
+    match tpmt_sym_def_read_whole(s, at) {
         TpmtSymDefRead::Found(_, e) => Measure::Size(e),
         TpmtSymDefRead::No(f) => Measure::No(f),
     }
@@ -57,7 +57,7 @@ fn tpmt_sym_def_whole_end(s: &[u8], at: usize) -> Measure
 fn tpmt_kdf_scheme_whole_end(s: &[u8], at: usize) -> Measure
     ensures { λ r. ⌜ measureAnswer r ≡ endOf (readWhole tpmtKdfScheme (now (s .entry)) at) ⌝ }
 {
-    match TpmtKdfScheme::whole(s, at) {
+    match tpmt_kdf_scheme_read_whole(s, at) {
         TpmtKdfSchemeRead::Found(_, e) => Measure::Size(e),
         TpmtKdfSchemeRead::No(f) => Measure::No(f),
     }
@@ -66,7 +66,7 @@ fn tpmt_kdf_scheme_whole_end(s: &[u8], at: usize) -> Measure
 fn tpmt_keyedhash_scheme_whole_end(s: &[u8], at: usize) -> Measure
     ensures { λ r. ⌜ measureAnswer r ≡ endOf (readWhole tpmtKeyedhashScheme (now (s .entry)) at) ⌝ }
 {
-    match TpmtKeyedhashScheme::whole(s, at) {
+    match tpmt_keyedhash_scheme_read_whole(s, at) {
         TpmtKeyedhashSchemeRead::Found(_, e) => Measure::Size(e),
         TpmtKeyedhashSchemeRead::No(f) => Measure::No(f),
     }
@@ -75,7 +75,7 @@ fn tpmt_keyedhash_scheme_whole_end(s: &[u8], at: usize) -> Measure
 fn tpmt_sig_scheme_whole_end(s: &[u8], at: usize) -> Measure
     ensures { λ r. ⌜ measureAnswer r ≡ endOf (readWhole tpmtSigScheme (now (s .entry)) at) ⌝ }
 {
-    match TpmtSigScheme::whole(s, at) {
+    match tpmt_sig_scheme_read_whole(s, at) {
         TpmtSigSchemeRead::Found(_, e) => Measure::Size(e),
         TpmtSigSchemeRead::No(f) => Measure::No(f),
     }
@@ -84,7 +84,7 @@ fn tpmt_sig_scheme_whole_end(s: &[u8], at: usize) -> Measure
 fn tpmt_rsa_scheme_whole_end(s: &[u8], at: usize) -> Measure
     ensures { λ r. ⌜ measureAnswer r ≡ endOf (readWhole tpmtAsymScheme (now (s .entry)) at) ⌝ }
 {
-    match TpmtRsaScheme::whole(s, at) {
+    match tpmt_rsa_scheme_read_whole(s, at) {
         TpmtRsaSchemeRead::Found(_, e) => Measure::Size(e),
         TpmtRsaSchemeRead::No(f) => Measure::No(f),
     }
@@ -93,7 +93,7 @@ fn tpmt_rsa_scheme_whole_end(s: &[u8], at: usize) -> Measure
 fn tpmt_ecc_scheme_whole_end(s: &[u8], at: usize) -> Measure
     ensures { λ r. ⌜ measureAnswer r ≡ endOf (readWhole tpmtAsymScheme (now (s .entry)) at) ⌝ }
 {
-    match TpmtEccScheme::whole(s, at) {
+    match tpmt_ecc_scheme_read_whole(s, at) {
         TpmtEccSchemeRead::Found(_, e) => Measure::Size(e),
         TpmtEccSchemeRead::No(f) => Measure::No(f),
     }
@@ -102,7 +102,7 @@ fn tpmt_ecc_scheme_whole_end(s: &[u8], at: usize) -> Measure
 fn tpmt_rsa_decrypt_whole_end(s: &[u8], at: usize) -> Measure
     ensures { λ r. ⌜ measureAnswer r ≡ endOf (readWhole tpmtAsymScheme (now (s .entry)) at) ⌝ }
 {
-    match TpmtRsaDecrypt::whole(s, at) {
+    match tpmt_rsa_decrypt_read_whole(s, at) {
         TpmtRsaDecryptRead::Found(_, e) => Measure::Size(e),
         TpmtRsaDecryptRead::No(f) => Measure::No(f),
     }
@@ -111,7 +111,7 @@ fn tpmt_rsa_decrypt_whole_end(s: &[u8], at: usize) -> Measure
 fn tpmt_public_parms_whole_end(s: &[u8], at: usize) -> Measure
     ensures { λ r. ⌜ measureAnswer r ≡ endOf (readWhole tpmtPublicParms (now (s .entry)) at) ⌝ }
 {
-    match TpmtPublicParms::whole(s, at) {
+    match tpmt_public_parms_read_whole(s, at) {
         TpmtPublicParmsRead::Found(_, e) => Measure::Size(e),
         TpmtPublicParmsRead::No(f) => Measure::No(f),
     }
@@ -120,7 +120,7 @@ fn tpmt_public_parms_whole_end(s: &[u8], at: usize) -> Measure
 fn tpmt_signature_whole_end(s: &[u8], at: usize) -> Measure
     ensures { λ r. ⌜ measureAnswer r ≡ endOf (readWhole tpmtSignature (now (s .entry)) at) ⌝ }
 {
-    match TpmtSignature::whole(s, at) {
+    match tpmt_signature_read_whole(s, at) {
         TpmtSignatureRead::Found(_, e) => Measure::Size(e),
         TpmtSignatureRead::No(f) => Measure::No(f),
     }
@@ -129,7 +129,7 @@ fn tpmt_signature_whole_end(s: &[u8], at: usize) -> Measure
 fn tpmt_public_whole_end(s: &[u8], at: usize) -> Measure
     ensures { λ r. ⌜ measureAnswer r ≡ endOf (readWhole tpmtPublic (now (s .entry)) at) ⌝ }
 {
-    match TpmtPublic::whole(s, at) {
+    match tpmt_public_read_whole(s, at) {
         TpmtPublicRead::Found(_, e) => Measure::Size(e),
         TpmtPublicRead::No(f) => Measure::No(f),
     }
@@ -138,7 +138,7 @@ fn tpmt_public_whole_end(s: &[u8], at: usize) -> Measure
 fn tpmt_sensitive_whole_end(s: &[u8], at: usize) -> Measure
     ensures { λ r. ⌜ measureAnswer r ≡ endOf (readWhole tpmtSensitive (now (s .entry)) at) ⌝ }
 {
-    match TpmtSensitive::whole(s, at) {
+    match tpmt_sensitive_read_whole(s, at) {
         TpmtSensitiveRead::Found(_, e) => Measure::Size(e),
         TpmtSensitiveRead::No(f) => Measure::No(f),
     }
@@ -147,7 +147,7 @@ fn tpmt_sensitive_whole_end(s: &[u8], at: usize) -> Measure
 fn tpms_attest_whole_end(s: &[u8], at: usize) -> Measure
     ensures { λ r. ⌜ measureAnswer r ≡ endOf (readWhole tpmsAttest (now (s .entry)) at) ⌝ }
 {
-    match TpmsAttest::whole(s, at) {
+    match tpms_attest_read_whole(s, at) {
         TpmsAttestRead::Found(_, e) => Measure::Size(e),
         TpmsAttestRead::No(f) => Measure::No(f),
     }
@@ -156,7 +156,7 @@ fn tpms_attest_whole_end(s: &[u8], at: usize) -> Measure
 fn tpml_pcr_selection_whole_end(s: &[u8], at: usize) -> Measure
     ensures { λ r. ⌜ measureAnswer r ≡ endOf (readWhole tpmlPcrSelection (now (s .entry)) at) ⌝ }
 {
-    match TpmlPcrSelection::whole(s, at) {
+    match tpml_pcr_selection_read_whole(s, at) {
         TpmlPcrSelectionRead::Found(_, e) => Measure::Size(e),
         TpmlPcrSelectionRead::No(f) => Measure::No(f),
     }
