@@ -4,8 +4,7 @@ use mathlib.Core.Path.{_≡_, refl, sym, ap, _∙_}
 use mathlib.Core.Logic.{_⊎_}
 use mathlib.Core.Bool.{true}
 use mathlib.Core.List.{List, _∷_, _++_}
-use lib.ListN.{length, take, drop, take-append-drop}
-use lib.Seq.{length-take-le}
+use lib.ListN.{length, drop}
 use Rattle.faults.specs.declared.Fault.the-variants.{Short}
 use Rattle.faults.specs.declared.Refusal.{Refusal}
 use Rattle.faults.specs.Faults.{short}
@@ -18,14 +17,13 @@ use Rattle.wire.specs.Reading.{read, endOf}
 use Rattle.wire.specs.Grammar.{Token, Spells, Stands, Starts}
 use Rattle.wire.specs.Editions.{Later, Ours, Newer, Foreign}
 use Rattle.wire.proofs.Answers.{measure-answer-once}
-use Rattle.wire.proofs.Stand.{bytes-front}
 use Rattle.wire.proofs.Steps.{found-refused, found-same, refused-same, next-found}
-use Rattle.wire.proofs.Stable.{cut-short}
-use Rattle.wire.proofs.Ours.{ours-kept, ours-is-read, not-ours-is-refused, later-cut}
+use Rattle.wire.proofs.Ours.{ours-kept, ours-is-read, not-ours-is-refused}
 use Rattle.format.specs.Kinds.{isKind, layoutOf, readKind}
 use Rattle.format.proofs.Numbered.{of-kind}
 use Rattle.format.proofs.Legal.{spelled-is-kind, legal-is-read-by-number, read-by-number-is-legal, refusal-by-number-is-first, first-is-refusal-by-number}
 use Rattle.records.specs.Ends.{Ends}
+use Rattle.records.proofs.Promised.{cut-there, cut-ours-there, later-cut-there}
 
 -- no end is a refusal, and that one
 pub no-end : (a : Ans Parsed) {f : Refusal} → endOf a ≡ refused f → a ≡ refused f
@@ -63,27 +61,6 @@ module _ (k : ℕ) (src : List ℕ) (at : ℕ) (r : Measure) (answer : measureAn
   by-layout : {s : Measure} → isKind k ≡ true → endOf (read (layoutOf k) src at) ≡ measureAnswer s → r ≡ s
   by-layout {s} some e = answers s (ap endOf (sym (of-kind k src at refl some)) ∙ e)
 
-  module _ (inside : at ≤ length src) where
-    -- the input is what stands in front of the place, and what stands from there on
-    abbrev front : List ℕ
-    front = take at src
-
-    front-size : length front ≡ at
-    front-size = length-take-le at src inside
-
-    front-bytes : Bytes front
-    front-bytes = bytes-front front (drop at src) (rw (take-append-drop at src) b)
-
-    cut-is : {ts : List Token} (y : ℕ) (ys : List ℕ) → Spells (layoutOf k) ts (drop at src ++ (y ∷ ys)) → (place : ℕ) × (needed : ℕ) × (r ≡ Measure.No (short place needed))
-    cut-is y ys d =
-        let (place, needed, p) = cut-short front (drop at src) y ys front-bytes d in
-        (place, needed, by-layout (spelled-is-kind k d) (ap endOf (rw (take-append-drop at src, front-size) at p)))
-
-    later-cut-is : {l′ : Layout} {ts : List Token} (y : ℕ) (ys : List ℕ) → isKind k ≡ true → Later (layoutOf k) l′ → Spells l′ ts (drop at src ++ (y ∷ ys)) → (f : Refusal) × (r ≡ Measure.No f) × ((f .fault ≡ Short) ⊎ Newer f)
-    later-cut-is y ys some x d =
-        let (f, p, why) = later-cut front (drop at src) y ys front-bytes x d in
-        (f, by-layout some (ap endOf (rw (take-append-drop at src, front-size) at p)), why)
-
   ours-ends : {l′ : Layout} {ts : List Token} {bs : List ℕ} (x : Later (layoutOf k) l′) (d : Spells l′ ts bs) → Stands src at bs → Ours x d → r ≡ Measure.Size (at + length bs)
   ours-ends x d stands all = by-layout (spelled-is-kind k (ours-kept x d all .0)) (ap endOf (ours-is-read x d stands all))
 
@@ -101,8 +78,9 @@ module _ (k : ℕ) (src : List ℕ) (at : ℕ) (r : Measure) (answer : measureAn
         none-means-refused = none-refused;
         refusal-is-first = λ e. refusal-by-number-is-first k src at b (no-end (readKind k src at) (told e));
         first-is-refusal = λ {f} d. answers (Measure.No f) (ap endOf (first-is-refusal-by-number k d));
-        cut-is-short = λ y ys inside d. cut-is inside y ys d;
+        cut-is-short = λ y ys inside d. let (place, needed, p) = cut-there (layoutOf k) src at b y ys inside d in (place, needed, by-layout (spelled-is-kind k d) (ap endOf p));
         ours-has-end = ours-ends;
         not-ours-has-no-end = not-ours-refused;
-        later-cut-is-refused = λ y ys some inside x d. later-cut-is inside y ys some x d;
+        cut-ours-is-short = λ y ys inside x d all. let (place, needed, p) = cut-ours-there (layoutOf k) src at b y ys inside x d all in (place, needed, by-layout (spelled-is-kind k (ours-kept x d all .0)) (ap endOf p));
+        later-cut-is-refused = λ y ys some inside x d. let (f, p, why) = later-cut-there (layoutOf k) src at b y ys inside x d in (f, by-layout some (ap endOf p), why);
       }

@@ -12,15 +12,36 @@ use Rattle.wire.specs.Layout.{Layout}
 use Rattle.wire.specs.Records.{Part, Ans, refused, Parsed, parsed}
 use Rattle.wire.specs.Reading.{read, readWhole, IsShort}
 use Rattle.wire.specs.Grammar.{Token, Spells, Starts, placed, shown}
-use Rattle.wire.specs.Editions.{Later, Newer}
+use Rattle.wire.specs.Editions.{Later, Ours, Newer}
 use Rattle.wire.proofs.Stand.{bytes-front}
 use Rattle.wire.proofs.Complete.{read-complete, placed-shows}
 use Rattle.wire.proofs.Prefix as prefix
 use Rattle.wire.proofs.Refused.{refuses-read, read-refuses}
 use Rattle.wire.proofs.Stable.{cut-short}
 use Rattle.wire.proofs.Ours as ours
+use Rattle.wire.proofs.Whole.{refused-is-refused-whole}
 use Rattle.wire.proofs.WholeExactly as whole
 use Rattle.records.specs.Reads.{Reads, ReadsWhole}
+
+-- ---- a record of which the input has only the beginning: the input is what stands in front of the place, and what stands there
+
+module _ (l : Layout) (src : List ℕ) (at : ℕ) (b : Bytes src) (y : ℕ) (ys : List ℕ) (inside : at ≤ length src) where
+  size : length (take at src) ≡ at
+  size = length-take-le at src inside
+
+  front : Bytes (take at src)
+  front = bytes-front (take at src) (drop at src) (rw (take-append-drop at src) b)
+
+  pub cut-there : {ts : List Token} → Spells l ts (drop at src ++ (y ∷ ys)) → IsShort (read l src at)
+  cut-there d = let (place, needed, p) = cut-short (take at src) (drop at src) y ys front d in (place, needed, rw (take-append-drop at src, size) at p)
+
+  pub cut-ours-there : {l′ : Layout} {ts : List Token} (x : Later l l′) (d : Spells l′ ts (drop at src ++ (y ∷ ys))) → Ours x d → IsShort (read l src at)
+  cut-ours-there x d all = let (place, needed, p) = ours.cut-ours-is-short (take at src) (drop at src) y ys front x d all in (place, needed, rw (take-append-drop at src, size) at p)
+
+  pub later-cut-there : {l′ : Layout} {ts : List Token} → Later l l′ → Spells l′ ts (drop at src ++ (y ∷ ys)) → (f : Refusal) × (read l src at ≡ refused f) × ((f .fault ≡ Short) ⊎ Newer f)
+  later-cut-there x d = let (f, p, why) = ours.later-cut (take at src) (drop at src) y ys front x d in (f, rw (take-append-drop at src, size) at p, why)
+
+-- ---- what is owed, from the equation
 
 module _ (l : Layout) (src : List ℕ) (at : ℕ) {a : Ans Parsed} where
   -- a record as a prefix
@@ -32,20 +53,6 @@ module _ (l : Layout) (src : List ℕ) (at : ℕ) {a : Ans Parsed} where
         let n = length (d .front) in
         let rest = sym (drop-at (d .front) (d .stands .rest) n refl) ∙ ap (λ xs. drop n xs) (sym (d .stands .begins)) ∙ drop-drop n at src ∙ ap (λ m. drop m src) (sym (d .ends)) in
         (d, same, shows, d .stands .begins ∙ ap (λ xs. d .front ++ xs) rest)
-
-    -- the input is what stands in front of the place, and what stands there
-    module _ (inside : at ≤ length src) where
-      size : length (take at src) ≡ at
-      size = length-take-le at src inside
-
-      front : Bytes (take at src)
-      front = bytes-front (take at src) (drop at src) (rw (take-append-drop at src) b)
-
-      cut : {ts : List Token} (y : ℕ) (ys : List ℕ) → Spells l ts (drop at src ++ (y ∷ ys)) → IsShort a
-      cut y ys d = let (place, needed, p) = cut-short (take at src) (drop at src) y ys front d in (place, needed, told ∙ rw (take-append-drop at src, size) at p)
-
-      later-cut : {l′ : Layout} {ts : List Token} (y : ℕ) (ys : List ℕ) → Later l l′ → Spells l′ ts (drop at src ++ (y ∷ ys)) → (f : Refusal) × (a ≡ refused f) × ((f .fault ≡ Short) ⊎ Newer f)
-      later-cut y ys x d = let (f, p, why) = ours.later-cut (take at src) (drop at src) y ys front x d in (f, told ∙ rw (take-append-drop at src, size) at p, why)
 
     pub reads : Reads l src at a
     reads =
@@ -59,8 +66,9 @@ module _ (l : Layout) (src : List ℕ) (at : ℕ) {a : Ans Parsed} where
           first-is-refusal = λ first. told ∙ refuses-read first;
           ours-is-read = λ x d stands all. told ∙ ours.ours-is-read x d stands all;
           not-ours-is-refused = λ x d stands foreign. let (f, g, p) = ours.not-ours-is-refused x d stands foreign in (f, g, told ∙ p);
-          cut-is-short = λ y ys inside d. cut inside y ys d;
-          later-cut-is-refused = λ y ys inside x d. later-cut inside y ys x d;
+          cut-is-short = λ y ys inside d. let (place, needed, p) = cut-there l src at b y ys inside d in (place, needed, told ∙ p);
+          cut-ours-is-short = λ y ys inside x d all. let (place, needed, p) = cut-ours-there l src at b y ys inside x d all in (place, needed, told ∙ p);
+          later-cut-is-refused = λ y ys inside x d. let (f, p, why) = later-cut-there l src at b y ys inside x d in (f, told ∙ p, why);
         }
 
   -- a record that is all there is
@@ -76,4 +84,7 @@ module _ (l : Layout) (src : List ℕ) (at : ℕ) {a : Ans Parsed} where
           ours-is-read = λ x d alone all. told ∙ ours.ours-is-read-whole src at x d alone all;
           ours-with-a-tail-is-trailing = λ x d stands more all. told ∙ ours.ours-with-a-tail-is-trailing x d stands more all;
           not-ours-is-refused = λ x d stands foreign. let (f, g, p) = ours.not-ours-is-refused-whole x d stands foreign in (f, g, told ∙ p);
+          cut-is-short = λ y ys inside d. let (place, needed, p) = cut-there l src at b y ys inside d in (place, needed, told ∙ refused-is-refused-whole l src at p);
+          cut-ours-is-short = λ y ys inside x d all. let (place, needed, p) = cut-ours-there l src at b y ys inside x d all in (place, needed, told ∙ refused-is-refused-whole l src at p);
+          later-cut-is-refused = λ y ys inside x d. let (f, p, why) = later-cut-there l src at b y ys inside x d in (f, told ∙ refused-is-refused-whole l src at p, why);
         }

@@ -14,18 +14,20 @@ use Rattle.wire.specs.Answers.{measureAnswer}
 use Rattle.wire.specs.Bytes.{Bytes}
 use Rattle.wire.specs.Layout.{Layout}
 use Rattle.wire.specs.Records.{Ans, found, refused}
-use Rattle.wire.specs.Reading.{readWhole, endOf}
+use Rattle.wire.specs.Reading.{read, readWhole, endOf}
 use Rattle.wire.specs.Grammar.{Token, Spells, Stands, Starts}
 use Rattle.wire.specs.Refusals.{RefusesWhole, first-fault, left-over}
 use Rattle.wire.specs.Editions.{Later, Ours, Foreign}
 use Rattle.wire.proofs.Answers.{measure-answer-once}
 use Rattle.wire.proofs.Steps.{found-same, refused-same, next-found, when-found}
 use Rattle.wire.proofs.Ours as ours
+use Rattle.wire.proofs.Whole.{refused-is-refused-whole}
 use Rattle.wire.proofs.WholeExactly as whole
 use Rattle.format.specs.Kinds.{isKind, layoutOf}
 use Rattle.format.specs.Refused.{RefusesKind, no-kind, in-record}
 use Rattle.format.proofs.Legal.{spelled-is-kind}
 use Rattle.records.specs.Ends.{readKindWhole, IsWhole, WholeEnds}
+use Rattle.records.proofs.Promised.{cut-there, cut-ours-there, later-cut-there}
 use Rattle.records.proofs.Ends.{no-end}
 pub use borrow.Author.Needs.{needs}
 
@@ -93,6 +95,10 @@ module _ (k : ℕ) (src : List ℕ) (at : ℕ) (r : Measure) (answer : measureAn
       → (f : Refusal) × Foreign (layoutOf k) src at (at + length bs) f × (r ≡ Measure.No f)
   not-ours-refused some x d stands foreign = let (f, g, p) = ours.not-ours-is-refused-whole x d stands foreign in (f, g, by-layout some (ap endOf p))
 
+  -- what is refused as a prefix is refused whole
+  cut-whole : {f : Refusal} → read (layoutOf k) src at ≡ refused f → endOf (readWhole (layoutOf k) src at) ≡ refused f
+  cut-whole p = ap endOf (refused-is-refused-whole (layoutOf k) src at p)
+
   pub whole-end : WholeEnds k src at r
   whole-end =
       record {
@@ -104,6 +110,9 @@ module _ (k : ℕ) (src : List ℕ) (at : ℕ) (r : Measure) (answer : measureAn
         tail-is-trailing = tail-trailing;
         ours-has-end = ours-end;
         not-ours-has-no-end = not-ours-refused;
+        cut-is-short = λ y ys inside d. let (place, needed, p) = cut-there (layoutOf k) src at b y ys inside d in (place, needed, by-layout (spelled-is-kind k d) (cut-whole p));
+        cut-ours-is-short = λ y ys inside x d all. let (place, needed, p) = cut-ours-there (layoutOf k) src at b y ys inside x d all in (place, needed, by-layout (spelled-is-kind k (ours.ours-kept x d all .0)) (cut-whole p));
+        later-cut-is-refused = λ y ys some inside x d. let (f, p, why) = later-cut-there (layoutOf k) src at b y ys inside x d in (f, by-layout some (cut-whole p), why);
       }
 
 -- ---- for `search`: the number is j, and j's reader of whole records answered so

@@ -43,7 +43,9 @@ pub record Ends (kind : ℕ) (src : List ℕ) (at : ℕ) (r : Measure) : Type 0 
   -- and any other is refused at the first code or arm that is not ours, which lies in the record
   pub not-ours-has-no-end : {l′ : Layout} {ts : List Token} {bs : List ℕ} → isKind kind ≡ true → (x : Later (layoutOf kind) l′) (d : Spells l′ ts bs) → Stands src at bs → (Ours x d → ⊥)
       → (f : Refusal) × Foreign (layoutOf kind) src at (at + length bs) f × (r ≡ Measure.No f)
-  -- and one of which the input has only the beginning is Short, or refused for a code or an arm that is not ours
+  -- one of which the input has only the beginning is Short if it is all ours, and else Short, or refused for a code or an arm that is not ours
+  pub cut-ours-is-short : {l′ : Layout} {ts : List Token} (y : ℕ) (ys : List ℕ) → at ≤ length src → (x : Later (layoutOf kind) l′) (d : Spells l′ ts (drop at src ++ (y ∷ ys))) → Ours x d
+      → (place : ℕ) × (needed : ℕ) × (r ≡ Measure.No (short place needed))
   pub later-cut-is-refused : {l′ : Layout} {ts : List Token} (y : ℕ) (ys : List ℕ) → isKind kind ≡ true → at ≤ length src → Later (layoutOf kind) l′ → Spells l′ ts (drop at src ++ (y ∷ ys))
       → (f : Refusal) × (r ≡ Measure.No f) × ((f .fault ≡ Short) ⊎ Newer f)
 
@@ -77,3 +79,11 @@ pub record WholeEnds (kind : ℕ) (src : List ℕ) (at : ℕ) (r : Measure) : Ty
   -- and any other is refused at the first code or arm that is not ours, which lies in the record
   pub not-ours-has-no-end : {l′ : Layout} {ts : List Token} {bs : List ℕ} → isKind kind ≡ true → (x : Later (layoutOf kind) l′) (d : Spells l′ ts bs) → Stands src at bs → (Ours x d → ⊥)
       → (f : Refusal) × Foreign (layoutOf kind) src at (at + length bs) f × (r ≡ Measure.No f)
+  -- a legal record of which the input has only the beginning is Short
+  pub cut-is-short : {ts : List Token} (y : ℕ) (ys : List ℕ) → at ≤ length src → Spells (layoutOf kind) ts (drop at src ++ (y ∷ ys))
+      → (place : ℕ) × (needed : ℕ) × (r ≡ Measure.No (short place needed))
+  -- one of which the input has only the beginning is Short if it is all ours, and else Short, or refused for a code or an arm that is not ours
+  pub cut-ours-is-short : {l′ : Layout} {ts : List Token} (y : ℕ) (ys : List ℕ) → at ≤ length src → (x : Later (layoutOf kind) l′) (d : Spells l′ ts (drop at src ++ (y ∷ ys))) → Ours x d
+      → (place : ℕ) × (needed : ℕ) × (r ≡ Measure.No (short place needed))
+  pub later-cut-is-refused : {l′ : Layout} {ts : List Token} (y : ℕ) (ys : List ℕ) → isKind kind ≡ true → at ≤ length src → Later (layoutOf kind) l′ → Spells l′ ts (drop at src ++ (y ∷ ys))
+      → (f : Refusal) × (r ≡ Measure.No f) × ((f .fault ≡ Short) ⊎ Newer f)

@@ -36,8 +36,10 @@ pub record Reads (l : Layout) (src : List ℕ) (at : ℕ) (a : Ans Parsed) : Typ
   -- and any other is refused at the first code or arm that is not ours, which lies in the record
   pub not-ours-is-refused : {l′ : Layout} {ts : List Token} {bs : List ℕ} (x : Later l l′) (d : Spells l′ ts bs) → Stands src at bs → (Ours x d → ⊥)
       → (f : Refusal) × Foreign l src at (at + length bs) f × (a ≡ refused f)
-  -- a legal record of which the input has only the beginning is Short; of a later edition it may be a code or an arm that is not ours
+  -- a legal record of which the input has only the beginning is Short, and so is one of a later edition that is all ours; of another it may
+  -- be a code or an arm that is not ours
   pub cut-is-short : {ts : List Token} (y : ℕ) (ys : List ℕ) → at ≤ length src → Spells l ts (drop at src ++ (y ∷ ys)) → IsShort a
+  pub cut-ours-is-short : {l′ : Layout} {ts : List Token} (y : ℕ) (ys : List ℕ) → at ≤ length src → (x : Later l l′) (d : Spells l′ ts (drop at src ++ (y ∷ ys))) → Ours x d → IsShort a
   pub later-cut-is-refused : {l′ : Layout} {ts : List Token} (y : ℕ) (ys : List ℕ) → at ≤ length src → Later l l′ → Spells l′ ts (drop at src ++ (y ∷ ys))
       → (f : Refusal) × (a ≡ refused f) × ((f .fault ≡ Short) ⊎ Newer f)
 
@@ -60,3 +62,9 @@ pub record ReadsWhole (l : Layout) (src : List ℕ) (at : ℕ) (a : Ans Parsed) 
   -- and any other is refused at the first code or arm that is not ours
   pub not-ours-is-refused : {l′ : Layout} {ts : List Token} {bs : List ℕ} (x : Later l l′) (d : Spells l′ ts bs) → Stands src at bs → (Ours x d → ⊥)
       → (f : Refusal) × Foreign l src at (at + length bs) f × (a ≡ refused f)
+  -- a legal record of which the input has only the beginning is Short, and so is one of a later edition that is all ours; of another it may
+  -- be a code or an arm that is not ours
+  pub cut-is-short : {ts : List Token} (y : ℕ) (ys : List ℕ) → at ≤ length src → Spells l ts (drop at src ++ (y ∷ ys)) → IsShort a
+  pub cut-ours-is-short : {l′ : Layout} {ts : List Token} (y : ℕ) (ys : List ℕ) → at ≤ length src → (x : Later l l′) (d : Spells l′ ts (drop at src ++ (y ∷ ys))) → Ours x d → IsShort a
+  pub later-cut-is-refused : {l′ : Layout} {ts : List Token} (y : ℕ) (ys : List ℕ) → at ≤ length src → Later l l′ → Spells l′ ts (drop at src ++ (y ∷ ys))
+      → (f : Refusal) × (a ≡ refused f) × ((f .fault ≡ Short) ⊎ Newer f)
