@@ -1,46 +1,50 @@
--- One edition that is later than ours, and a digest of each sort, computed: one that we read, one whose code we do not list, and one whose
--- arm we do not have. Assumes nothing.
+-- One edition that is later than ours, and records of it, computed: one that we read, one whose code we do not list, and one whose arm we
+-- do not have; and one for each of its lists and tables. Assumes nothing.
 use Prim.Native.Nat.{ℕ}
 use mathlib.Core.Path.{_≡_, refl}
 use mathlib.Core.Bool.{_||_}
-use mathlib.Core.List.{List, [], _∷_}
+use mathlib.Core.List.{List, [], _∷_, _++_}
 use lib.ListN.{replicate}
 use lib.Dec.{eqb}
 use Rattle.faults.specs.Faults.{unknownCode, noSuchArm}
+use Rattle.faults.specs.declared.Refusal.{Refusal}
 use Rattle.wire.specs.Bytes.{be}
-use Rattle.wire.specs.Records.{num, tag, span, refused, parsed}
-use Rattle.wire.specs.Reading.{piece, field, read}
+use Rattle.wire.specs.Layout.{one, free, _then_}
+use Rattle.wire.specs.Unions.{own}
+use Rattle.wire.specs.Records.{num, tag, span, refused, parsed, Ans, Parsed}
+use Rattle.wire.specs.Reading.{piece, field, read, list}
 use Rattle.wire.specs.Editions.{Later}
-use Rattle.codes.specs.Codes.{algorithms, isAlgorithm, isCurve, isAttestation, sha1}
+use Rattle.codes.specs.Codes.{algorithms, isAlgorithm, isCurve, isAttestation, sha1, curves, attestations}
 use Rattle.codes.specs.Digests.{digestRow}
-use Rattle.format.specs.Kinds.{digestOf, tpmuHaArm, tpmuHa, tpmtHa, kinds, layoutOf}
+use Rattle.format.specs.Kinds.{digestOf, tpmuHaArm, tpmuHa, tpmtHa, kinds, layoutOf, tpmuAsymSchemeArm, tpmuAsymScheme, tpmuSigSchemeArm, tpmuSigScheme, tpmuKeyedhashSchemeArm, tpmuKeyedhashScheme, tpmuKdfSchemeArm, tpmuKdfScheme, tpmuSymKeyBitsArm, tpmuSymKeyBits, tpmuSymModeArm, tpmuSymMode, tpmuPublicParmsArm, tpmuPublicParms, tpmuPublicIdArm, tpmuPublicId, tpmuSensitiveCompositeArm, tpmuSensitiveComposite, tpmuSignatureArm, tpmuSignature, tpmuAttestArm, tpmuAttest, tpmsSchemeHash, tpmsSchemeXor, tpmtSymDef, tpmtKdfScheme, tpmtKeyedhashScheme, tpmtSigScheme, tpmtAsymScheme, tpmsRsaParms, tpmsEccParms, tpmsSignatureRsa, tpmsSignatureEcc, tpmtPublicParms, tpmtSignature, tpmtPublic, tpmtSensitive, tpmsPcrSelection, tpmlPcrSelection, tpmsQuoteInfo, tpmsCommandAuditInfo, tpmsAttest, tpmsClockInfo}
 use Rattle.format.specs.Editions.{Edition, Extends}
-use Rattle.format.specs.EditionKinds.{tpmuHaIn, tpmtHaIn, kindsIn, layoutIn}
+use Rattle.format.specs.EditionKinds.{tpmuHaIn, tpmtHaIn, kindsIn, layoutIn, tpmuAsymSchemeIn, tpmuSigSchemeIn, tpmuKeyedhashSchemeIn, tpmuKdfSchemeIn, tpmuSymKeyBitsIn, tpmuSymModeIn, tpmuPublicParmsIn, tpmuPublicIdIn, tpmuSensitiveCompositeIn, tpmuSignatureIn, tpmuAttestIn, tpmsSchemeHashIn, tpmsSchemeXorIn, tpmtSymDefIn, tpmtKdfSchemeIn, tpmtKeyedhashSchemeIn, tpmtSigSchemeIn, tpmtAsymSchemeIn, tpmsRsaParmsIn, tpmsEccParmsIn, tpmsSignatureRsaIn, tpmsSignatureEccIn, tpmtPublicParmsIn, tpmtSignatureIn, tpmtPublicIn, tpmtSensitiveIn, tpmsPcrSelectionIn, tpmlPcrSelectionIn, tpmsQuoteInfoIn, tpmsCommandAuditInfoIn, tpmsAttestIn}
 use Rattle.format.proofs.Editions.{extension-is-later}
 
--- code 002F is listed and has a digest of 28 bytes; 002A, which is listed here and has no arm, has one of 16
+-- algorithm 002F, curve 0050 and attestation type 8020 are listed; 002F, and 8020, have an arm in every table, a digest of 28 bytes or a
+-- number of two; and 002A, which is listed here and has no arm, has a digest of 16
 abbrev pub newEdition : Edition
 newEdition =
     record {
       isAlgorithm = λ n. isAlgorithm n || eqb n 0x2F;
-      isCurve = isCurve;
-      isAttestation = isAttestation;
+      isCurve = λ n. isCurve n || eqb n 0x50;
+      isAttestation = λ n. isAttestation n || eqb n 0x8020;
       tpmuHa = digestRow 0x2F 28 ∷ digestRow 0x2A 16 ∷ [];
-      tpmuAsymScheme = [];
-      tpmuSigScheme = [];
-      tpmuKeyedhashScheme = [];
-      tpmuKdfScheme = [];
-      tpmuSymKeyBits = [];
-      tpmuSymMode = [];
-      tpmuPublicParms = [];
-      tpmuPublicId = [];
-      tpmuSensitiveComposite = [];
-      tpmuSignature = [];
-      tpmuAttest = [];
+      tpmuAsymScheme = own 0x2F (one 2 free) ∷ [];
+      tpmuSigScheme = own 0x2F (one 2 free) ∷ [];
+      tpmuKeyedhashScheme = own 0x2F (one 2 free) ∷ [];
+      tpmuKdfScheme = own 0x2F (one 2 free) ∷ [];
+      tpmuSymKeyBits = own 0x2F (one 2 free) ∷ [];
+      tpmuSymMode = own 0x2F (one 2 free) ∷ [];
+      tpmuPublicParms = own 0x2F (one 2 free) ∷ [];
+      tpmuPublicId = own 0x2F (one 2 free) ∷ [];
+      tpmuSensitiveComposite = own 0x2F (one 2 free) ∷ [];
+      tpmuSignature = own 0x2F (one 2 free) ∷ [];
+      tpmuAttest = own 0x8020 (one 2 free) ∷ [];
     }
 
 pub new-extends : Extends newEdition
-new-extends = record { algorithms = λ n h. rw h; curves = λ n h. h; attestations = λ n h. h }
+new-extends = record { algorithms = λ n h. rw h; curves = λ n h. rw h; attestations = λ n h. rw h }
 
 -- so each of its kinds is later than ours
 pub new-is-later : (k : ℕ) → Later (layoutOf k) (layoutIn newEdition k)
@@ -71,3 +75,55 @@ pub ours-reads-ours :
     × (read (layoutOf 1) armless 0 ≡ refused (noSuchArm 2 0x2A))
 unfolding read field piece be layoutOf kinds tpmtHa tpmuHa tpmuHaArm isAlgorithm algorithms
 ours-reads-ours = (refl, refl, refl)
+
+-- ---- every list and every table of the edition is used
+
+-- a record of the edition: its kind and its bytes, what the edition's reader answers, and how ours refuses it
+pub record NewRecord : Type 0 where
+  pub kind : ℕ
+  pub spelled : List ℕ
+  pub theirs : Ans Parsed
+  pub ours : Refusal
+
+abbrev new : (kind : ℕ) → List ℕ → Ans Parsed → Refusal → NewRecord
+new k bs a f = record { kind = k; spelled = bs; theirs = a; ours = f }
+
+-- seventeen zeros, a clock, and eight, a firmware version
+abbrev clock : List ℕ → List ℕ
+clock bs = replicate 25 0 ++ bs
+
+abbrev pub newRecords : List NewRecord
+newRecords =
+    -- 002F as a selector, of each union in turn
+    new 2 (0x00 ∷ 0x2F ∷ 0 ∷ 1 ∷ 0 ∷ 2 ∷ []) (parsed (num 0x2F ∷ tag 0x2F ∷ num 1 ∷ tag 0x2F ∷ num 2 ∷ []) 6) (unknownCode 0 0x2F)
+    ∷ new 3 (0x00 ∷ 0x2F ∷ 0 ∷ 1 ∷ []) (parsed (num 0x2F ∷ tag 0x2F ∷ num 1 ∷ []) 4) (unknownCode 0 0x2F)
+    ∷ new 4 (0x00 ∷ 0x2F ∷ 0 ∷ 1 ∷ []) (parsed (num 0x2F ∷ tag 0x2F ∷ num 1 ∷ []) 4) (unknownCode 0 0x2F)
+    ∷ new 5 (0x00 ∷ 0x2F ∷ 0 ∷ 1 ∷ []) (parsed (num 0x2F ∷ tag 0x2F ∷ num 1 ∷ []) 4) (unknownCode 0 0x2F)
+    ∷ new 6 (0x00 ∷ 0x2F ∷ 0 ∷ 1 ∷ []) (parsed (num 0x2F ∷ tag 0x2F ∷ num 1 ∷ []) 4) (unknownCode 0 0x2F)
+    ∷ new 9 (0x00 ∷ 0x2F ∷ 0 ∷ 1 ∷ []) (parsed (num 0x2F ∷ tag 0x2F ∷ num 1 ∷ []) 4) (unknownCode 0 0x2F)
+    ∷ new 10 (0x00 ∷ 0x2F ∷ 0 ∷ 1 ∷ []) (parsed (num 0x2F ∷ tag 0x2F ∷ num 1 ∷ []) 4) (unknownCode 0 0x2F)
+    ∷ new 11 (0x00 ∷ 0x2F ∷ 0x00 ∷ 0x04 ∷ 0 ∷ 0 ∷ 0 ∷ 0 ∷ 0 ∷ 0 ∷ 0 ∷ 1 ∷ 0 ∷ 2 ∷ [])
+      (parsed (num 0x2F ∷ num 4 ∷ num 0 ∷ span 10 0 ∷ tag 0x2F ∷ num 1 ∷ tag 0x2F ∷ num 2 ∷ []) 14) (unknownCode 0 0x2F)
+    ∷ new 12 (0x00 ∷ 0x2F ∷ 0 ∷ 0 ∷ 0 ∷ 0 ∷ 0 ∷ 1 ∷ []) (parsed (num 0x2F ∷ span 4 0 ∷ span 6 0 ∷ tag 0x2F ∷ num 1 ∷ []) 8) (unknownCode 0 0x2F)
+    ∷ new 13 (0xFF ∷ 0x54 ∷ 0x43 ∷ 0x47 ∷ 0x80 ∷ 0x20 ∷ 0 ∷ 0 ∷ 0 ∷ 0 ∷ clock (0 ∷ 1 ∷ []))
+      (parsed (num 0xFF544347 ∷ num 0x8020 ∷ span 8 0 ∷ span 10 0 ∷ num 0 ∷ num 0 ∷ num 0 ∷ num 0 ∷ num 0 ∷ tag 0x8020 ∷ num 1 ∷ []) 37) (unknownCode 4 0x8020)
+    -- 002F as a hash, a KDF or a bank, and a curve of the edition's
+    ∷ new 3 (0x00 ∷ 0x07 ∷ 0x00 ∷ 0x2F ∷ []) (parsed (num 7 ∷ tag 7 ∷ num 0x2F ∷ []) 4) (unknownCode 2 0x2F)
+    ∷ new 4 (0x00 ∷ 0x0A ∷ 0x00 ∷ 0x0B ∷ 0x00 ∷ 0x2F ∷ []) (parsed (num 10 ∷ tag 10 ∷ num 11 ∷ num 0x2F ∷ []) 6) (unknownCode 4 0x2F)
+    ∷ new 10 (0x00 ∷ 0x14 ∷ 0x00 ∷ 0x2F ∷ 0 ∷ 0 ∷ []) (parsed (num 0x14 ∷ tag 0x14 ∷ num 0x2F ∷ span 6 0 ∷ []) 6) (unknownCode 2 0x2F)
+    ∷ new 10 (0x00 ∷ 0x18 ∷ 0x00 ∷ 0x2F ∷ 0 ∷ 0 ∷ 0 ∷ 0 ∷ []) (parsed (num 0x18 ∷ tag 0x18 ∷ num 0x2F ∷ span 6 0 ∷ span 8 0 ∷ []) 8) (unknownCode 2 0x2F)
+    ∷ new 13 (0xFF ∷ 0x54 ∷ 0x43 ∷ 0x47 ∷ 0x80 ∷ 0x15 ∷ 0 ∷ 0 ∷ 0 ∷ 0 ∷ clock (replicate 8 0 ++ (0x00 ∷ 0x2F ∷ 0 ∷ 0 ∷ 0 ∷ 0 ∷ [])))
+      (parsed (num 0xFF544347 ∷ num 0x8015 ∷ span 8 0 ∷ span 10 0 ∷ num 0 ∷ num 0 ∷ num 0 ∷ num 0 ∷ num 0 ∷ tag 0x8015 ∷ num 0 ∷ num 0x2F ∷ span 47 0 ∷ span 49 0 ∷ []) 49) (unknownCode 43 0x2F)
+    ∷ new 14 (0 ∷ 0 ∷ 0 ∷ 1 ∷ 0x00 ∷ 0x2F ∷ 0 ∷ []) (parsed (span 0 7 ∷ []) 7) (unknownCode 4 0x2F)
+    ∷ new 9 (0x00 ∷ 0x23 ∷ 0x00 ∷ 0x10 ∷ 0x00 ∷ 0x10 ∷ 0x00 ∷ 0x50 ∷ 0x00 ∷ 0x10 ∷ [])
+      (parsed (num 0x23 ∷ tag 0x23 ∷ num 0x10 ∷ tag 0x10 ∷ tag 0x10 ∷ num 0x10 ∷ tag 0x10 ∷ num 0x50 ∷ num 0x10 ∷ tag 0x10 ∷ []) 10) (unknownCode 6 0x50)
+    ∷ []
+
+-- the edition reads each of them so, and we refuse it so
+abbrev pub AllAnswered : List NewRecord → Type 0
+AllAnswered [] = Unit {0}
+AllAnswered (r ∷ rs) = (read (layoutIn newEdition (r .kind)) (r .spelled) 0 ≡ r .theirs) × (read (layoutOf (r .kind)) (r .spelled) 0 ≡ refused (r .ours)) × AllAnswered rs
+
+pub new-records-are-answered : AllAnswered newRecords
+unfolding read field piece list be layoutIn layoutOf isAlgorithm algorithms isCurve curves isAttestation attestations _then_ kindsIn kinds tpmuHaIn tpmuAsymSchemeIn tpmuSigSchemeIn tpmuKeyedhashSchemeIn tpmuKdfSchemeIn tpmuSymKeyBitsIn tpmuSymModeIn tpmuPublicParmsIn tpmuPublicIdIn tpmuSensitiveCompositeIn tpmuSignatureIn tpmuAttestIn tpmsSchemeHashIn tpmsSchemeXorIn tpmtHaIn tpmtSymDefIn tpmtKdfSchemeIn tpmtKeyedhashSchemeIn tpmtSigSchemeIn tpmtAsymSchemeIn tpmsRsaParmsIn tpmsEccParmsIn tpmsSignatureRsaIn tpmsSignatureEccIn tpmtPublicParmsIn tpmtSignatureIn tpmtPublicIn tpmtSensitiveIn tpmsPcrSelectionIn tpmlPcrSelectionIn tpmsQuoteInfoIn tpmsCommandAuditInfoIn tpmsAttestIn tpmuHaArm tpmuHa tpmuAsymSchemeArm tpmuAsymScheme tpmuSigSchemeArm tpmuSigScheme tpmuKeyedhashSchemeArm tpmuKeyedhashScheme tpmuKdfSchemeArm tpmuKdfScheme tpmuSymKeyBitsArm tpmuSymKeyBits tpmuSymModeArm tpmuSymMode tpmuPublicParmsArm tpmuPublicParms tpmuPublicIdArm tpmuPublicId tpmuSensitiveCompositeArm tpmuSensitiveComposite tpmuSignatureArm tpmuSignature tpmuAttestArm tpmuAttest tpmsSchemeHash tpmsSchemeXor tpmtHa tpmtSymDef tpmtKdfScheme tpmtKeyedhashScheme tpmtSigScheme tpmtAsymScheme tpmsRsaParms tpmsEccParms tpmsSignatureRsa tpmsSignatureEcc tpmtPublicParms tpmtSignature tpmtPublic tpmtSensitive tpmsPcrSelection tpmlPcrSelection tpmsQuoteInfo tpmsCommandAuditInfo tpmsClockInfo tpmsAttest
+new-records-are-answered = (refl, refl, (refl, refl, (refl, refl, (refl, refl, (refl, refl, (refl, refl, (refl, refl, (refl, refl, (refl, refl, (refl, refl, (refl, refl, (refl, refl, (refl, refl, (refl, refl, (refl, refl, (refl, refl, (refl, refl, tt)))))))))))))))))

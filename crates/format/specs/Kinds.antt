@@ -45,8 +45,8 @@ qualifying l = buffer 2 66 l
 abbrev pub nvContents : Layout → Layout
 nvContents l = buffer 2 2048 l
 
--- ---- the numbers of arms: an arm that one selector alone chooses has that selector's code. The empty arm is Null's and has Null's code, also where Rsaes
--- chooses it too. Else an arm that several selectors choose has a number that is no selector's code in its union: a hash code 1, and a digest its digestOf
+-- ---- the numbers of arms: a digest's is 256 more than its length (digestOf). Of the others, one that a single selector chooses has that
+-- selector's code; the empty arm is Null's and has Null's code, also where Rsaes chooses it too; and a hash code that several choose is 1
 
 -- a hash code that several schemes choose
 abbrev pub hash : ℕ

@@ -56,11 +56,11 @@ module _ (s : Span) (src : List ℕ) (at : ℕ) where
       let place : at + 2 + n ≡ at + length (digits 2 (lenOf s) ++ bytes) = omega (arith, length-append (digits 2 (lenOf s)) bytes, length-digits 2 (lenOf s)) in
       rw (sized-part src (startOf s) (lenOf s) at p, le-leb (lenOf s) m (omega arith), lt-ltb (lenOf s) 65536 (omega arith)) (ap found place)
 
-  pub buffer-long : {m n : ℕ} → found n ≡ sizeOf (cut src (startOf s) (lenOf s) at) → m < n → refused (tooLong at n) ≡ after at (spellStep (Buffer m s) src at)
+  pub buffer-long : {m n : ℕ} → found n ≡ sizeOf (cut src (startOf s) (lenOf s) at) → m < n → refused (tooLong at (lenOf s)) ≡ after at (spellStep (Buffer m s) src at)
   unfolding spellStep spelt
   buffer-long {m} {n} p h =
       let same : n ≡ lenOf s = sized-length src (startOf s) (lenOf s) at p .0 in
-      rw (sized-part src (startOf s) (lenOf s) at p, lt-leb (lenOf s) m (omega arith)) (ap (λ k. refused (tooLong at k)) same)
+      rw (sized-part src (startOf s) (lenOf s) at p, lt-leb (lenOf s) m (omega arith))
 
   pub buffer-out : (m : ℕ) {x : Measure} {f : Refusal} → x ≡ Measure.No f → measureAnswer x ≡ sizeOf (cut src (startOf s) (lenOf s) at) → refused f ≡ after at (spellStep (Buffer m s) src at)
   unfolding spellStep

@@ -68,6 +68,7 @@ fn judge_buffer(limit: u16, span: Span, src: &[u8], at: usize) -> Measure
     requires { ⌜ at ≤ 0x1000000 ⌝ }
     ensures { λ r. ⌜ (measureAnswer r ≡ after at (spellStep (Buffer limit span) (now (src .entry)) at)) × Near r at ⌝ }
 {
+    let size = span.len();
     let len = match span.measure(src, at) {
         Measure::Size(len) => len,
         Measure::No(out) => return Measure::No(out),
@@ -76,7 +77,7 @@ fn judge_buffer(limit: u16, span: Span, src: &[u8], at: usize) -> Measure
         let end = at + 2 + len;
         return Measure::Size(end);
     }
-    Measure::No(Refusal::too_long(at, len as u64))
+    Measure::No(Refusal::too_long(at, size as u64))
 }
 
 // What judging answered, as a walk.
