@@ -1,6 +1,6 @@
-// Lists every deposit on standard input: two bytes that say how long it is, then the deposit, and then the next. Behind the listing of a
-// record that was read comes the line `again`, with the bytes that it is written as: if its copy, and it written and read again, and it read
-// whole, all have the same size.
+// Lists every deposit on standard input: two bytes that say how long it is, then the deposit, and then the next. After the listing of a
+// record that was read comes the line `again`, with the bytes that it is written as: if its copy and the record written and read again have
+// one size, and read whole it has that size too or, with a tail, is Trailing there.
 use codes::uint::Uint16Read;
 use codes::uint::uint16;
 use copies::walk::copy;
@@ -37,11 +37,14 @@ fn write_again_line(bytes: &[u8], out: &mut [u8]) {
     io::write_all(1, &end);
 }
 
-// Whether a record of that size is read whole where it is all there is, and refused where more stands behind it.
+// Whether a record of that size is read whole where it is all there is, and is Trailing where more stands after it.
 fn whole_agrees(kind: u8, bytes: &[u8], size: usize) -> bool {
     match whole_end(kind, bytes, 0) {
         Measure::Size(end) => end == size && end == bytes.len(),
-        Measure::No(_) => size < bytes.len(),
+        Measure::No(f) => {
+            let fault = f.fault;
+            fault.number() == 11 && f.place == size && size < bytes.len()
+        }
     }
 }
 

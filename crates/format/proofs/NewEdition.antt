@@ -103,20 +103,20 @@ newRecords =
     ∷ new 9 (0x00 ∷ 0x2F ∷ 0 ∷ 1 ∷ []) (parsed (num 0x2F ∷ tag 0x2F ∷ num 1 ∷ []) 4) (unknownCode 0 0x2F)
     ∷ new 10 (0x00 ∷ 0x2F ∷ 0 ∷ 1 ∷ []) (parsed (num 0x2F ∷ tag 0x2F ∷ num 1 ∷ []) 4) (unknownCode 0 0x2F)
     ∷ new 11 (0x00 ∷ 0x2F ∷ 0x00 ∷ 0x04 ∷ 0 ∷ 0 ∷ 0 ∷ 0 ∷ 0 ∷ 0 ∷ 0 ∷ 1 ∷ 0 ∷ 2 ∷ [])
-      (parsed (num 0x2F ∷ num 4 ∷ num 0 ∷ span 10 0 ∷ tag 0x2F ∷ num 1 ∷ tag 0x2F ∷ num 2 ∷ []) 14) (unknownCode 0 0x2F)
+    (parsed (num 0x2F ∷ num 4 ∷ num 0 ∷ span 10 0 ∷ tag 0x2F ∷ num 1 ∷ tag 0x2F ∷ num 2 ∷ []) 14) (unknownCode 0 0x2F)
     ∷ new 12 (0x00 ∷ 0x2F ∷ 0 ∷ 0 ∷ 0 ∷ 0 ∷ 0 ∷ 1 ∷ []) (parsed (num 0x2F ∷ span 4 0 ∷ span 6 0 ∷ tag 0x2F ∷ num 1 ∷ []) 8) (unknownCode 0 0x2F)
     ∷ new 13 (0xFF ∷ 0x54 ∷ 0x43 ∷ 0x47 ∷ 0x80 ∷ 0x20 ∷ 0 ∷ 0 ∷ 0 ∷ 0 ∷ clock (0 ∷ 1 ∷ []))
-      (parsed (num 0xFF544347 ∷ num 0x8020 ∷ span 8 0 ∷ span 10 0 ∷ num 0 ∷ num 0 ∷ num 0 ∷ num 0 ∷ num 0 ∷ tag 0x8020 ∷ num 1 ∷ []) 37) (unknownCode 4 0x8020)
+    (parsed (num 0xFF544347 ∷ num 0x8020 ∷ span 8 0 ∷ span 10 0 ∷ num 0 ∷ num 0 ∷ num 0 ∷ num 0 ∷ num 0 ∷ tag 0x8020 ∷ num 1 ∷ []) 37) (unknownCode 4 0x8020)
     -- 002F as a hash, a KDF or a bank, and a curve of the edition's
     ∷ new 3 (0x00 ∷ 0x07 ∷ 0x00 ∷ 0x2F ∷ []) (parsed (num 7 ∷ tag 7 ∷ num 0x2F ∷ []) 4) (unknownCode 2 0x2F)
     ∷ new 4 (0x00 ∷ 0x0A ∷ 0x00 ∷ 0x0B ∷ 0x00 ∷ 0x2F ∷ []) (parsed (num 10 ∷ tag 10 ∷ num 11 ∷ num 0x2F ∷ []) 6) (unknownCode 4 0x2F)
     ∷ new 10 (0x00 ∷ 0x14 ∷ 0x00 ∷ 0x2F ∷ 0 ∷ 0 ∷ []) (parsed (num 0x14 ∷ tag 0x14 ∷ num 0x2F ∷ span 6 0 ∷ []) 6) (unknownCode 2 0x2F)
     ∷ new 10 (0x00 ∷ 0x18 ∷ 0x00 ∷ 0x2F ∷ 0 ∷ 0 ∷ 0 ∷ 0 ∷ []) (parsed (num 0x18 ∷ tag 0x18 ∷ num 0x2F ∷ span 6 0 ∷ span 8 0 ∷ []) 8) (unknownCode 2 0x2F)
     ∷ new 13 (0xFF ∷ 0x54 ∷ 0x43 ∷ 0x47 ∷ 0x80 ∷ 0x15 ∷ 0 ∷ 0 ∷ 0 ∷ 0 ∷ clock (replicate 8 0 ++ (0x00 ∷ 0x2F ∷ 0 ∷ 0 ∷ 0 ∷ 0 ∷ [])))
-      (parsed (num 0xFF544347 ∷ num 0x8015 ∷ span 8 0 ∷ span 10 0 ∷ num 0 ∷ num 0 ∷ num 0 ∷ num 0 ∷ num 0 ∷ tag 0x8015 ∷ num 0 ∷ num 0x2F ∷ span 47 0 ∷ span 49 0 ∷ []) 49) (unknownCode 43 0x2F)
+    (parsed (num 0xFF544347 ∷ num 0x8015 ∷ span 8 0 ∷ span 10 0 ∷ num 0 ∷ num 0 ∷ num 0 ∷ num 0 ∷ num 0 ∷ tag 0x8015 ∷ num 0 ∷ num 0x2F ∷ span 47 0 ∷ span 49 0 ∷ []) 49) (unknownCode 43 0x2F)
     ∷ new 14 (0 ∷ 0 ∷ 0 ∷ 1 ∷ 0x00 ∷ 0x2F ∷ 0 ∷ []) (parsed (span 0 7 ∷ []) 7) (unknownCode 4 0x2F)
     ∷ new 9 (0x00 ∷ 0x23 ∷ 0x00 ∷ 0x10 ∷ 0x00 ∷ 0x10 ∷ 0x00 ∷ 0x50 ∷ 0x00 ∷ 0x10 ∷ [])
-      (parsed (num 0x23 ∷ tag 0x23 ∷ num 0x10 ∷ tag 0x10 ∷ tag 0x10 ∷ num 0x10 ∷ tag 0x10 ∷ num 0x50 ∷ num 0x10 ∷ tag 0x10 ∷ []) 10) (unknownCode 6 0x50)
+    (parsed (num 0x23 ∷ tag 0x23 ∷ num 0x10 ∷ tag 0x10 ∷ tag 0x10 ∷ num 0x10 ∷ tag 0x10 ∷ num 0x50 ∷ num 0x10 ∷ tag 0x10 ∷ []) 10) (unknownCode 6 0x50)
     ∷ []
 
 -- the edition reads each of them so, and we refuse it so

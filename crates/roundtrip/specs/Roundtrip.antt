@@ -44,7 +44,8 @@ pub record Rewrites (answered : Ans Parsed) (src old : List ℕ) (r : Measure) (
   pub buffer : last ≡ filled 0 (bytesRead answered src) old
 
 -- What is owed to whoever has the record of a kind read from the front of src, written, and read again from where it was written: all that
--- a copy owes; and what was read again shows what the record showed
+-- a copy owes; and that what a reader finds in the buffer shows what the record showed. The second follows from the first. What the type's
+-- own reader answers there is owed by ReadsBack
 pub record Again (kind : ℕ) (src old : List ℕ) (r : Measure) (last : List ℕ) : Type 0 where
   pub copies : Copies kind src old r last
   pub reads-again : {ts : List Token} {bs : List ℕ} → Begins kind src ts bs → length bs ≤ length old
