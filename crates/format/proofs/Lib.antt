@@ -4,6 +4,7 @@ pub mod Lists
 pub mod Greatest
 pub mod Numbered
 pub mod Legal
+pub mod FirstByte
 pub mod Samples
 pub mod Editions
 pub mod NewEdition

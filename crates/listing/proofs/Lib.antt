@@ -1,3 +1,4 @@
 pub mod Deposits
 pub mod Promises
 pub mod Editions
+pub mod Bare
