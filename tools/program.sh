@@ -4,11 +4,11 @@
 # shellcheck disable=SC2154
 
 program=$root/target/bin/$name
-# rt removes this file before it builds a program, and puts it back when the program is proved, linked and has run as it should. So an
-# interrupted build leaves none, and its time, not the program's, is the time of the build.
+# rt removes this file before it builds the program, and puts it back once the program is proved, linked and has run as it should: an
+# interrupted build leaves none.
 built=$root/target/stamp/$name
 log=$root/target/log/$me.log
-lock=$root/target/log/$me.lock
+lock=$root/target/log/build.lock
 # Seconds a crate: a first run of 19 crates took 430 on two Arm cores.
 pace=23
 # The folder of the emulator, where one is needed.
@@ -69,12 +69,12 @@ tell() {
 stop() { # SIGNAL
     trap - "$1"
     kill -s TERM -- "-$job" 2>/dev/null || kill "$job" 2>/dev/null || :
-    say "stopped; what was proved is kept"
+    say 'stopped; what was proved is kept'
     kill -s "$1" $$
 }
 
 start_rt() {
-    (trap - PIPE && cd "$root" && exec setsid rt check "$name") </dev/null >"$log" 2>&1 4>&- 5>&- &
+    (trap - PIPE && cd "$root" && exec setsid rt check "$name") </dev/null >"$log" 2>&1 8>&- 9>&- &
     job=$!
     for signal in HUP INT TERM; do
         # shellcheck disable=SC2064
@@ -115,16 +115,16 @@ build() {
     touch -r "$lock" "$built" # what was changed since rt began is newer than the build
 }
 
-# Two builds in one checkout would break each other. Not a lock folder: that would outlive a run that was killed, while this lock is held
-# by the open descriptor, also in rt, and goes when the last process does.
+# Two builds in one checkout would break each other. A lock folder would outlive a run that is killed. This lock is held by an open
+# descriptor, which rt has too, and goes when the last of them has ended.
 build_alone() {
-    exec 9>>"$lock"
-    flock -n 9 || {
-        say "another run is building the program: waiting for it"
-        flock 9
+    exec 7>>"$lock"
+    flock -n 7 || {
+        say 'another run is building here: waiting for it'
+        flock 7
     }
     is_good || build
-    exec 9>&-
+    exec 7>&-
 }
 
 old_one() { say "the program is older than its sources, and cannot be built again: $1"; }
@@ -132,7 +132,7 @@ old_one() { say "the program is older than its sources, and cannot be built agai
 build_or_use() {
     command -v rt >/dev/null || {
         is_built || needs_kit
-        old_one "there is no rt"
+        old_one 'there is no rt'
         return
     }
     can_write || {

@@ -41,7 +41,7 @@ two=$started
 check 'a second first run waits' 'wait_for "grep -q waiting \"$work/two.err\"" && [ ! -s "$work/two.out" ]'
 touch "$FAKE_DIR/go"
 try_ended 'the first of two at once' 0 aes "$said" "$one" one
-try_ended 'the second of two at once' 1 cut 'cabinet-list: another run is building the program: waiting for it' "$two" two
+try_ended 'the second of two at once' 1 cut 'cabinet-list: another run is building here: waiting for it' "$two" two
 check 'rt was called once for both' '[ "$(calls)" -eq 1 ]'
 
 unbuild
@@ -61,7 +61,7 @@ unbuild
 rm -f "$FAKE_DIR/child"
 start one hangs "$first/cabinet-list" "$deposits/aes"
 wait_for '[ -s "$FAKE_DIR/child" ]' || :
-kill -s TERM "$started"
+kill -s TERM "$started" || :
 try_ended 'a first run is stopped' 143 nothing 'cabinet-list: proving*
 cabinet-list: stopped; what was proved is kept' "$started" one
 check 'rt and what it started are stopped too' 'wait_for gone'
@@ -72,11 +72,11 @@ unbuild
 rm -f "$FAKE_DIR/child"
 start one hangs "$first/cabinet-list" "$deposits/aes"
 wait_for '[ -s "$FAKE_DIR/child" ]' || :
-kill -s KILL "$started"
+kill -s KILL "$started" || :
 wait "$started" 2>/dev/null || :
 start two good "$first/cabinet-list" "$deposits/aes"
 check 'a first run was killed and its rt goes on: the next one waits' 'wait_for "grep -q waiting \"$work/two.err\""'
-kill -s TERM -- "-$(head -n 1 "$FAKE_DIR/calls")"
+kill -s TERM -- "-$(head -n 1 "$FAKE_DIR/calls")" || :
 try_ended 'and builds once that rt has ended' 0 aes "cabinet-list: another run*waiting for it
 $said" "$started" two
 

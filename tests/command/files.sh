@@ -15,8 +15,8 @@ try 'a name given twice' 0 twice '' 'cd "$deposits" && "$list" aes aes'
 wanted with-input - srk aes aes
 try 'standard input among files' 0 with-input '' 'cd "$deposits" && "$list" - aes <srk'
 
-try 'no such file' 2 nothing 'cabinet-list: nowhere: No such file*' 'cd "$deposits" && "$list" nowhere'
-try 'no such file among others, which are listed' 2 two 'cabinet-list: nowhere: No such file*' 'cd "$deposits" && "$list" aes nowhere cut'
+try 'no such file' 2 nothing 'cabinet-list: nowhere: [Nn]o such file*' 'cd "$deposits" && "$list" nowhere'
+try 'no such file among others, which are listed' 2 two 'cabinet-list: nowhere: [Nn]o such file*' 'cd "$deposits" && "$list" aes nowhere cut'
 chmod 000 "$deposits/aes"
 try 'a file that may not be read' 2 nothing 'cabinet-list: aes: Permission denied' 'cd "$deposits" && $drop "$list" aes'
 chmod 644 "$deposits/aes"
@@ -30,6 +30,11 @@ try 'several files to a pipe that nobody reads: one line' 2 nothing 'cabinet-lis
 mkfifo "$work/fifo"
 try 'a named pipe, opened once' 0 srk '' 'cat "$deposits/srk" >"$work/fifo" & "$list" "$work/fifo"'
 
+try 'the file /dev/stdin' 0 aes '' '"$list" /dev/stdin <"$deposits/aes"'
+try 'the file /dev/fd/3' 0 aes '' '"$list" /dev/fd/3 3<"$deposits/aes"'
+wanted by-number /dev/fd/3 aes /dev/fd/4 srk
+try 'the files /dev/fd/3 and /dev/fd/4' 0 by-number '' '"$list" /dev/fd/3 /dev/fd/4 3<"$deposits/aes" 4<"$deposits/srk"'
+
 names=$work/names
 mkdir "$names"
 line='two
@@ -40,15 +45,15 @@ done
 for name in 'with spaces' '*' "$line" 'a: b' '$(x)`y`\n' '~' '#' "$(printf '\351')"; do
     wanted odd "$(printf %s "$name" | tr '\n' '?')" aes aes aes
     try "the name '$(printf %s "$name" | tr '\n' '?')'" 0 odd '' 'cd "$names" && "$list" "$name" ../deposits/aes | sed "s|^../deposits/||"'
-    try "no such file, by the name 'no$(printf %s "$name" | tr '\n' '?')'" 2 nothing 'cabinet-list: no*: No such file*' 'cd "$names" && "$list" "no$name"'
+    try "no such file, by the name 'no$(printf %s "$name" | tr '\n' '?')'" 2 nothing 'cabinet-list: no*: [Nn]o such file*' 'cd "$names" && "$list" "no$name"'
 done
 check 'a name of two lines is shown as one' 'cd "$names" && ! "$list" "no$line" 2>&1 | sed -n 2p | grep .'
 for name in -aes --kind; do
     try "the name '$name' behind --" 0 aes '' 'cd "$names" && "$list" -- "$name"'
     try "the name './$name'" 0 aes '' 'cd "$names" && "$list" "./$name"'
 done
-try 'an empty name' 2 nothing "cabinet-list: '': No such file*" '"$list" ""'
-try 'an empty name among others' 2 two "cabinet-list: '': No such file*" 'cd "$deposits" && "$list" aes "" cut'
+try 'an empty name' 2 nothing "cabinet-list: '': [Nn]o such file*" '"$list" ""'
+try 'an empty name among others' 2 two "cabinet-list: '': [Nn]o such file*" 'cd "$deposits" && "$list" aes "" cut'
 
 long=$(printf '%0200d/' 0 0 0 0 0 0 0 0 0 0 0 0 0 0 0 0 0 0)aes
 try 'a long name' 0 aes '' 'cd "$names" && mkdir -p "${long%/aes}" && cp "$deposits/aes" "$long" && "$list" "$long"'

@@ -44,8 +44,8 @@ try 'errors and input closed' 2 nothing '' '"$list" <&- 2>&-'
 try 'errors and input closed, a file' 0 aes '' '"$list" "$deposits/aes" <&- 2>&-'
 try 'all three closed' 2 nothing '' '"$list" <&- >&- 2>&-'
 try 'all three closed, a file' 2 nothing '' '"$list" "$deposits/aes" <&- >&- 2>&-'
-try 'descriptors 3, 4, 5 and 9 are the user'"'"'s' 0 aes '' '"$list" "$deposits/aes" 3>"$work/3" 4>"$work/4" 5>"$work/5" 9>"$work/9"'
-check 'and nothing is written there' 'cat "$work/3" "$work/4" "$work/5" "$work/9" | cmp - /dev/null'
+try 'further descriptors of the user' 0 aes '' '"$list" "$deposits/aes" 3>"$work/3" 4>"$work/4" 7>"$work/7" 8>"$work/8" 9>"$work/9"'
+check 'nothing is written there' 'cat "$work/3" "$work/4" "$work/7" "$work/8" "$work/9" | cmp - /dev/null'
 
 # The program has 0, 1, 2 and 3 alone: each further descriptor must not be one of those four again.
 stand_in "$work/leaks" 'mine=$(for n in 0 1 2 3; do readlink "/proc/$$/fd/$n"; done)
