@@ -109,6 +109,7 @@ try 'no rt, built, aarch64' 2 nothing "$no_kit" 'on aarch64 "$work/native/cabine
 touch "$work/native/crates/faults/src/lib.rt"
 try 'no rt, built, a file touched later, x86_64' 0 listed 'cabinet-list: the program is older than its sources, and cannot be built again: there is no rt' \
     'on x86_64 "$work/native/cabinet-list" "$deposits/aes"'
+try 'the same, errors to a full device' 0 listed '' '(on x86_64 "$work/native/cabinet-list" "$deposits/aes") 2>/dev/full'
 try 'a kit without an emulator' 2 nothing 'cabinet-list: the kit has no emulator for this machine, aarch64' \
     'PATH=$work/aarch64:$PATH RATTLE_HOME=$work "$list" "$deposits/aes"'
 

@@ -78,6 +78,7 @@ for word in -x --kinds --sized=1 --help=1 -kind --siz '--two
 lines'; do
     try "the option '$(printf %s "$word" | tr '\n' '?')'" 2 nothing 'cabinet-list: -*: no such option (cabinet-list --help *)' '"$list" "$word" "$deposits/aes"'
 done
+try 'an option that is none, errors to a full device' 2 nothing '' '"$list" -x 2>/dev/full'
 try 'an option that is none, ahead of --help' 2 nothing 'cabinet-list: -x: no such option*' '"$list" -x --help'
 try '-- and a file' 0 aes '' '"$list" -- "$deposits/aes"'
 try '-- and nothing' 0 aes '' '"$list" -- <"$deposits/aes"'

@@ -5,6 +5,7 @@ TYPED, in hex, is typed once AT has been shown ('' at once). What the terminal s
 """
 import os
 import pty
+import signal
 import sys
 import termios
 import time
@@ -29,7 +30,8 @@ def main():
     typed, at, command = bytes.fromhex(sys.argv[1]), sys.argv[2].encode(), sys.argv[3:]
     child, terminal = pty.fork()
     if child == 0:
-        time.sleep(0.2)
+        signal.signal(signal.SIGINT, signal.SIG_DFL)  # else Ctrl-C does nothing where the trials run in the background
+        time.sleep(0.2)  # until the terminal is quiet
         os.execvp(command[0], command)
     quiet(terminal)
     text = b""
