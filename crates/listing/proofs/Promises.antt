@@ -1,29 +1,30 @@
 -- What whoever has a deposit listed can rely on. Assumes nothing.
 use Prim.Native.Nat.{ℕ, _+_, _-_, _≤_, _<_}
 use native.Mathlib.Omega.{arith}
-use borrow.Author.Tests.{le-leb, lt-leb}
+use borrow.Author.Tests.{le-leb, lt-leb, leb-true}
 use mathlib.Core.Path.{_≡_, refl, sym, ap, _∙_}
-use mathlib.Core.Bool.{true, false}
+use mathlib.Core.Bool.{Bool, true, false}
 use mathlib.Core.List.{List, [], _∷_, _++_}
 use lib.ListN.{length, drop, length-append}
+use lib.Dec.{leb}
 use Rattle.faults.specs.declared.Refusal.{Refusal}
 use Rattle.faults.specs.Faults.{paper, noRoom, badKind, oversize}
 use Rattle.wire.specs.declared.measure.Measure.{Measure}
-use Rattle.wire.specs.Bytes.{be}
+use Rattle.wire.specs.Bytes.{Bytes, be}
 use Rattle.wire.specs.Layout.{_then_}
-use Rattle.wire.specs.Grammar.{Token, Spells, placed}
-use Rattle.wire.specs.Records.{refused, parsed}
+use Rattle.wire.specs.Grammar.{Token, Spells, Starts, placed}
+use Rattle.wire.specs.Records.{Ans, found, refused, Parsed, parsed}
 use Rattle.wire.specs.Reading.{read, field, piece}
 use Rattle.wire.specs.Refusals.{Refuses}
 use Rattle.wire.proofs.Answers.{measure-answer-once}
 use Rattle.codes.specs.Codes.{isAlgorithm, algorithms}
 use Rattle.format.specs.Kinds.{tpmuSymKeyBitsArm, tpmuSymModeArm, isKind, kinds, tpmtSymDef, tpmuSymKeyBits, tpmuSymMode, layoutOf, readKind}
 use Rattle.wire.specs.Lines.{lines}
-use Rattle.records.proofs.Promises.{legal-is-read, first-is-refusal}
+use Rattle.records.proofs.Promises.{legal-is-read, read-is-legal, first-is-refusal, legal-has-end}
 use Rattle.text.specs.Ascii.{ascii}
 use Rattle.text.specs.Text.{decimal, linesText, readText, refusedText}
-use Rattle.listing.specs.Listing.{judged, recordText, listing, Lists}
-use Rattle.listing.proofs.Deposits.{judged-read, judged-unread, read-listed, refused-listed}
+use Rattle.listing.specs.Listing.{judged, answerText, recordText, listing, answered, isFound, Lists}
+use Rattle.listing.proofs.Deposits.{judged-read, judged-unread, read-listed, refused-listed, end-judged, end-answered}
 
 -- ---- what was lent
 
@@ -32,18 +33,35 @@ pub answer-is-one : {d old last last′ : List ℕ} {r s : Measure} → Lists d 
 answer-is-one x y = (measure-answer-once _ _ (x .answer ∙ sym (y .answer)), x .buffer ∙ sym (y .buffer))
 
 module _ {d old last : List ℕ} {r : Measure} (lists : Lists d old r last) where
-  -- where 98,304 bytes are lent the whole listing is there, and behind it what was there
-  pub whole-listing-is-there : 98304 ≤ length old
-      → (r ≡ Measure.Size (length (listing d))) × (last ≡ listing d ++ drop (length (listing d)) old) × (length (listing d) ≤ 98304)
+  -- where the listing fits it is there, all of it, and behind it what was there
+  pub whole-listing-is-there : length (listing d) ≤ length old → (r ≡ Measure.Size (length (listing d))) × (last ≡ listing d ++ drop (length (listing d)) old)
   whole-listing-is-there room =
-      let enough = le-leb 98304 (length old) room in
-      (measure-answer-once _ _ (lists .answer ∙ rw enough), lists .buffer ∙ rw enough, lists .fits room)
+      let enough = le-leb (length (listing d)) (length old) room in
+      (measure-answer-once _ _ (lists .answer ∙ rw enough), lists .buffer ∙ rw enough)
 
-  -- where fewer are, nothing is changed
-  pub too-little-room-changes-nothing : length old < 98304 → (r ≡ Measure.No (noRoom 0 98304)) × (last ≡ old)
+  -- as it does wherever 98,304 bytes are lent
+  pub every-listing-fits : 98304 ≤ length old → length (listing d) ≤ length old
+  every-listing-fits room = omega (arith, lists .most)
+
+  -- where it does not fit nothing is changed, and the room that it needs is answered
+  pub too-little-room-changes-nothing : length old < length (listing d) → (r ≡ Measure.No (noRoom 0 (length (listing d)))) × (last ≡ old)
   too-little-room-changes-nothing short =
-      let few = lt-leb 98304 (length old) short in
+      let few = lt-leb (length (listing d)) (length old) short in
       (measure-answer-once _ _ (lists .answer ∙ rw few), lists .buffer ∙ rw few)
+
+-- no listing is empty
+text-some : (k : ℕ) (bs : List ℕ) (a : Ans Parsed) → 0 < length (answerText k bs a)
+text-some k bs (found r) = omega arith
+text-some k bs (refused f) = omega arith
+
+pub no-listing-is-empty : (d : List ℕ) → 0 < length (listing d)
+unfolding listing recordText
+no-listing-is-empty [] = text-some 0 [] (judged 0 [])
+no-listing-is-empty (k ∷ bs) = text-some k bs (judged k bs)
+
+-- so whoever lends no room at all is told how long the listing is
+pub no-room-asks-for-the-size : {d last : List ℕ} {r : Measure} → Lists d [] r last → r ≡ Measure.No (noRoom 0 (length (listing d)))
+no-room-asks-for-the-size {d} lists = too-little-room-changes-nothing lists (no-listing-is-empty d) .0
 
 -- ---- what is listed
 
@@ -85,6 +103,40 @@ module _ (k : ℕ) where
   pub first-fault-is-listed : {bs : List ℕ} {f : Refusal} → Refuses bs (layoutOf k) 0 f → isKind k ≡ true → length bs ≤ 4096 → listing (k ∷ bs) ≡ refusalText k f
   unfolding readKind
   first-fault-is-listed {bs} {f} fault some few = sym (refused-listed k bs {f = f} (judged-read k bs few ∙ rw some (first-is-refusal k fault)) ∙ of-kind-text bs)
+
+-- ---- whether it is a record
+
+was-found : (a : Ans Parsed) → isFound a ≡ true → (r : Parsed) × (a ≡ found r)
+was-found (found r) e = (r, refl)
+was-found (refused f) e = let z : _≡_ {A = ℕ} 0 1 = cc in absurd (omega arith)
+
+module _ (k : ℕ) (bs : List ℕ) where
+  -- what is listed is the text of what is answered
+  pub listing-is-the-answer : listing (k ∷ bs) ≡ answerText k bs (answered (k ∷ bs))
+  unfolding listing recordText answered
+  listing-is-the-answer = refl
+
+  -- a legal record of a kind at the front of at most 4,096 bytes is read
+  pub legal-record-was-read : {e : ℕ} → Starts (layoutOf k) bs 0 e → isKind k ≡ true → length bs ≤ 4096 → isFound (answered (k ∷ bs)) ≡ true
+  unfolding answered
+  legal-record-was-read start some few = sym (end-answered k bs (end-judged k bs few (sym (legal-has-end k some start))))
+
+  -- and what was read is one
+  pub read-was-a-legal-record : Bytes bs → isFound (answered (k ∷ bs)) ≡ true → (isKind k ≡ true) × (length bs ≤ 4096) × ((e : ℕ) × Starts (layoutOf k) bs 0 e)
+  unfolding answered judged
+  read-was-a-legal-record b p = by (isKind k) refl (leb (length bs) 4096) refl
+    where
+      by : (x : Bool) → isKind k ≡ x → (y : Bool) → leb (length bs) 4096 ≡ y → (isKind k ≡ true) × (length bs ≤ 4096) × ((e : ℕ) × Starts (layoutOf k) bs 0 e)
+      by true some true few =
+          let (r, e) = was-found (read (layoutOf k) bs 0) (rw (some, few) at p) in
+          (some, leb-true (length bs) 4096 few, (r .stops, read-is-legal k bs 0 r b e))
+      by true some false many = let q : false ≡ true = rw (some, many) at p in let z : _≡_ {A = ℕ} 0 1 = cc in absurd (omega arith)
+      by false none y q = let q : false ≡ true = rw none at p in let z : _≡_ {A = ℕ} 0 1 = cc in absurd (omega arith)
+
+-- no byte at all is no record
+pub nothing-was-not-read : isFound (answered []) ≡ false
+unfolding answered judged
+nothing-was-not-read = refl
 
 -- the format's example
 pub example-is-listed : listing (2 ∷ 0 ∷ 6 ∷ 0 ∷ 128 ∷ 0 ∷ 67 ∷ []) ≡ ascii "kind 2 read 6 tail 0\n0 2 code 6\n2 2 number 128\n4 2 code 67\n"

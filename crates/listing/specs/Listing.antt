@@ -1,7 +1,7 @@
 -- What is listed of a deposit: a kind byte, and then the record. Assumes nothing.
 use Prim.Native.Nat.{ℕ, _-_, _≤_}
 use mathlib.Core.Path.{_≡_}
-use mathlib.Core.Bool.{cond}
+use mathlib.Core.Bool.{Bool, true, false, cond}
 use mathlib.Core.List.{List, [], _∷_, _++_}
 use lib.ListN.{length, drop}
 use lib.Dec.{leb}
@@ -38,11 +38,28 @@ unfoldable pub listing : List ℕ → List ℕ
 listing [] = recordText 0 []
 listing (k ∷ bs) = recordText k bs
 
+-- and what it is the text of
+unfoldable pub answered : List ℕ → Ans Parsed
+answered [] = judged 0 []
+answered (k ∷ bs) = judged k bs
+
+-- whether that is a record
+abbrev pub isFound : {A : Type 0} → Ans A → Bool
+isFound (found a) = true
+isFound (refused f) = false
+
+-- a text was counted, r bytes, and none has more than 98,304; if it fits into a slice, which held old before and holds last now, it stands
+-- at its start. Nothing is said of a slice that is too small
+pub record Counts (text old : List ℕ) (r : ℕ) (last : List ℕ) : Type 0 where
+  pub size : r ≡ length text
+  pub most : length text ≤ 98304
+  pub puts : length text ≤ length old → last ≡ text ++ drop (length text) old
+
 -- What is owed to whoever has a deposit listed into a lent slice, which held old before and holds last now; r was answered
 pub record Lists (deposit old : List ℕ) (r : Measure) (last : List ℕ) : Type 0 where
-  -- how long the listing is, or that the slice is smaller than what every listing fits into
-  pub answer : measureAnswer r ≡ cond (leb 98304 (length old)) (found (length (listing deposit))) (refused (noRoom 0 98304))
+  -- how long the listing is, or, where the slice is smaller, how long it would have to be
+  pub answer : measureAnswer r ≡ cond (leb (length (listing deposit)) (length old)) (found (length (listing deposit))) (refused (noRoom 0 (length (listing deposit))))
   -- the listing and then what was there, or all that was there
-  pub buffer : last ≡ cond (leb 98304 (length old)) (listing deposit ++ drop (length (listing deposit)) old) old
-  -- where there is room, no listing is longer
-  pub fits : 98304 ≤ length old → length (listing deposit) ≤ 98304
+  pub buffer : last ≡ cond (leb (length (listing deposit)) (length old)) (listing deposit ++ drop (length (listing deposit)) old) old
+  -- no listing is longer
+  pub most : length (listing deposit) ≤ 98304

@@ -4,8 +4,8 @@ use faults::Refusal;
 use format::kind::is_kind;
 use records::kind::record_end;
 use steps::walk::lining;
-use text::answer::put_read_line;
-use text::answer::put_refusal_line;
+use text::answer::fit_read_line;
+use text::answer::fit_refusal_line;
 use wire::measure::Measure;
 use wire::widen::wide_byte;
 ghost use mathlib.Core.Path.{_≡_};
@@ -13,9 +13,10 @@ ghost use mathlib.Core.Bool.{cond};
 ghost use Prim.Native.Nat.{_≤_};
 ghost use lib.ListN.{length};
 ghost use Rattle.faults.specs.Faults.{badKind, oversize};
+ghost use Rattle.wire.specs.Answers.{measureAnswer};
+ghost use Rattle.wire.specs.Reading.{endOf};
 ghost use Rattle.format.specs.Kinds.{isKind};
-ghost use Rattle.text.specs.Puts.{Puts};
-ghost use Rattle.listing.specs.Listing.{recordText, Lists};
+ghost use Rattle.listing.specs.Listing.{judged, recordText, listing, answered, isFound, Counts, Lists};
 
 // A slice of so many bytes has room for every listing.
 pub const LISTING_ROOM: usize = 98304;
@@ -30,37 +31,76 @@ fn refused_unread(kind: u8) -> Refusal
     Refusal::bad_kind(wide_byte(kind))
 }
 
-// The listing of a record of that kind, at the start of out.
-fn put_record(kind: u8, bytes: &[u8], out: &mut [u8]) -> usize
-    requires { ⌜ 98304 ≤ length (now out) ⌝ }
-    ensures { λ r. ⌜ Puts 0 (recordText kind (now (bytes .entry))) (now (out .entry)) r (now (out .exit)) × (r ≤ 98304) ⌝ }
+// What is answered of a record of that kind: where it ends, or why it is refused.
+fn judge(kind: u8, bytes: &[u8]) -> Measure
+    ensures { λ r. ⌜ measureAnswer r ≡ endOf (judged kind (now (bytes .entry))) ⌝ }
 {
     if bytes.len() > 4096 {
-        return put_refusal_line(kind, refused_unread(kind), out, 0);
+        return Measure::No(refused_unread(kind));
     }
-    match record_end(kind, bytes, 0) {
+    record_end(kind, bytes, 0)
+}
+
+// The listing of a record of that kind, at the start of out if it fits; and how long it is.
+fn put_record(kind: u8, bytes: &[u8], out: &mut [u8]) -> usize
+    ensures { λ r. ⌜ Counts (recordText kind (now (bytes .entry))) (now (out .entry)) r (now (out .exit)) ⌝ }
+{
+    match judge(kind, bytes) {
         Measure::Size(stop) => {
             let tail = bytes.len() - stop;
-            let first = put_read_line(kind, stop, tail, out, 0);
+            let first = fit_read_line(kind, stop, tail, out, 0);
             let lines = walk(kind, bytes, lining(0, first), out);
             lines.value as usize
         }
-        Measure::No(f) => put_refusal_line(kind, f, out, 0),
+        Measure::No(f) => fit_refusal_line(kind, f, out, 0),
     }
 }
 
-// The listing of a deposit at the start of out, and how long it is. Where out is smaller than LISTING_ROOM, that is refused and out
-// is left as it was.
+// And that of a deposit.
+fn put_deposit(deposit: &[u8], out: &mut [u8]) -> usize
+    ensures { λ r. ⌜ Counts (listing (now (deposit .entry))) (now (out .entry)) r (now (out .exit)) ⌝ }
+{
+    if deposit.len() == 0 {
+        return put_record(0, deposit, out);
+    }
+    let kind = deposit[0];
+    let bytes = &deposit[1..];
+    put_record(kind, bytes, out)
+}
+
+// How long the listing of a deposit is.
+pub fn listing_size(deposit: &[u8]) -> usize
+    ensures { λ r. ⌜ (r ≡ length (listing (now (deposit .entry)))) × (r ≤ 98304) ⌝ }
+{
+    let mut nowhere = [0u8; 1];
+    put_deposit(deposit, &mut nowhere)
+}
+
+// The listing of a deposit at the start of out, and how long it is. Where out is smaller than that, so much room is asked for and out is
+// left as it was. Where every listing fits, none is measured first.
 pub fn list_deposit(deposit: &[u8], out: &mut [u8]) -> Measure
     ensures { λ r. ⌜ Lists (now (deposit .entry)) (now (out .entry)) r (now (out .exit)) ⌝ }
 {
     if out.len() < LISTING_ROOM {
-        return Measure::No(Refusal::no_room(0, LISTING_ROOM));
+        let need = listing_size(deposit);
+        if out.len() < need {
+            return Measure::No(Refusal::no_room(0, need));
+        }
     }
+    Measure::Size(put_deposit(deposit, out))
+}
+
+// Whether the listing of a deposit is that of a record which was read, and not of a refusal.
+pub fn is_read(deposit: &[u8]) -> bool
+    ensures { λ r. ⌜ r ≡ isFound (answered (now (deposit .entry))) ⌝ }
+{
     if deposit.len() == 0 {
-        return Measure::Size(put_record(0, deposit, out));
+        return false;
     }
     let kind = deposit[0];
     let bytes = &deposit[1..];
-    Measure::Size(put_record(kind, bytes, out))
+    match judge(kind, bytes) {
+        Measure::Size(_) => true,
+        Measure::No(_) => false,
+    }
 }

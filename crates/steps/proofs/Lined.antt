@@ -2,13 +2,11 @@
 use Prim.Native.Nat.{ℕ, zero, suc, _+_, _*_, _≤_, _<_}
 use native.Mathlib.Omega.{arith}
 use mathlib.Core.Path.{_≡_, refl, sym, ap, _∙_}
-use mathlib.Core.Bool.{Bool, true, false}
 use mathlib.Core.List.{List, [], _∷_, _++_}
 use lib.ListN.{length, take, drop}
-use lib.Dec.{leb, eqb}
-use borrow.Author.Tests.{le-leb, lt-leb, leb-true}
+use lib.Dec.{eqb}
+use borrow.Author.Tests.{le-leb, lt-leb}
 use Rattle.faults.specs.declared.Refusal.{Refusal}
-use Rattle.faults.specs.Faults.{noRoom}
 use Rattle.wire.specs.declared.measure.Measure.{Measure}
 use Rattle.wire.specs.declared.span.Span.{Span}
 use Rattle.wire.specs.Answers.{startOf, lenOf, measureAnswer}
@@ -20,14 +18,13 @@ use Rattle.wire.specs.Fields.{partOf}
 use Rattle.wire.proofs.Cuts.{cut-length}
 use Rattle.wire.proofs.Steps.{found-same, next-found, when-found}
 use Rattle.wire.proofs.Written.{spelt-found, cut-found}
-use Rattle.text.specs.Puts.{Puts}
-use Rattle.text.specs.declared.line.Word.{Word}
-use Rattle.text.specs.Text.{sayWord, lineText}
-use Rattle.text.proofs.Rows.{puts-same}
+use Rattle.text.specs.Puts.{Fits}
+use Rattle.text.specs.Text.{lineText}
+use Rattle.text.proofs.Putting.{fits-same}
 use Rattle.steps.specs.declared.walk.Walk.{Walk}
 use Rattle.steps.specs.Near.{Near}
 use Rattle.steps.specs.Steps.{Step, Plain, Buffer, spellStep, stepLines}
-use Rattle.steps.specs.Walks.{Here, here, refusing, lining, after, needOf, lineIf, forLines, putLine, putLines, toPlace, onTo, linesIf, linesOnce, lineStep}
+use Rattle.steps.specs.Walks.{Here, here, refusing, lining, after, lineAt, forLines, putLine, putLines, toPlace, onTo, linesIf, linesOnce, lineStep}
 use Rattle.steps.proofs.Spelled.{cut-is}
 
 pub putLines-append : (ls ms : List Line) (h : Here) → putLines (ls ++ ms) h ≡ putLines ms (putLines ls h)
@@ -36,21 +33,19 @@ putLines-append [] ms h = refl
 putLines-append (l ∷ ls) ms h = putLines-append ls ms (putLine l h)
 
 module _ (l : Line) (w : Walk) (old : List ℕ) where
-  pub lined : (k : ℕ) (b : Bool) (r : ℕ) (z : Walk) (last : List ℕ) → w .mode ≡ 3 → k ≡ needOf (l .says) → b ≡ leb (w .value + k) (length old) → b ≡ true → Puts (w .value) (lineText l) old r last → z ≡ lining (w .at) r
-      → here z last ≡ putLine l (here w old)
+  pub lined : (k : ℕ) (z : Walk) (last : List ℕ) → w .mode ≡ 3 → w .value ≤ 0x1000000 → Fits (w .value) (lineText l) old k last → z ≡ lining (w .at) (w .value + k) → here z last ≡ putLine l (here w old)
   unfolding putLine
-  lined k b r z last e is test good p q = rw (e, ← is, ← test, good, q, p .behind, p .holds)
+  lined k z last e near p q = rw (e, le-leb (w .value) 0x1000000 near, q, p .size, p .holds)
 
-  pub not-lined : (k : ℕ) (b : Bool) (f : Refusal) (z : Walk) → w .mode ≡ 3 → k ≡ needOf (l .says) → b ≡ leb (w .value + k) (length old) → b ≡ false → f ≡ noRoom 0 k → z ≡ refusing f
-      → here z old ≡ putLine l (here w old)
+  pub line-far : w .mode ≡ 3 → 0x1000000 < w .value → here w old ≡ putLine l (here w old)
   unfolding putLine
-  not-lined k b f z e is test bad why q = rw (e, ← is, ← test, bad) (ap (λ x. here x old) (q ∙ ap refusing (why ∙ ap (λ n. noRoom 0 n) is)))
+  line-far e h = rw (e, lt-leb (w .value) 0x1000000 h)
 
   pub no-lines : (w .mode ≡ 3 → ⊥) → here w old ≡ putLine l (here w old)
   unfolding putLine
   no-lines h = by (w .mode) h
     where
-      by : (m : ℕ) → (m ≡ 3 → ⊥) → here w old ≡ forLines m (here w old) (lineIf (leb (w .value + needOf (l .says)) (length old)) l (here w old))
+      by : (m : ℕ) → (m ≡ 3 → ⊥) → here w old ≡ forLines m (here w old) (lineAt l (here w old))
       by zero h = refl
       by (suc zero) h = refl
       by (suc (suc zero)) h = refl
@@ -146,39 +141,15 @@ module _ (n : ℕ) (t : Span) (src : List ℕ) (w : Walk) (old : List ℕ) where
 
 -- ---- a line
 
-pub need-word : (k : Word) (n : ℕ) → 70 ≡ needOf (sayWord k n)
-need-word Word.Code n = refl
-need-word Word.Number n = refl
-
--- where there is room for it
-pub room-there : (b : Bool) (at k n : ℕ) → b ≡ leb (at + k) n → b ≡ true → at + k ≤ n
-room-there b at k n test good = leb-true (at + k) n (sym test ∙ good)
-
-pub bytes-room : (b : Bool) (at k n : ℕ) (t : Span) (src xs : List ℕ) → (lenOf t ≤ 0x10001) × (startOf t + lenOf t ≤ length src) → k ≡ lenOf t → xs ≡ partOf (cut src (startOf t) (lenOf t) 0) → b ≡ leb (at + (50 + 2 * k)) n → b ≡ true
-    → at + (50 + 2 * length xs) ≤ n
-bytes-room b at k n t src xs inside size is test good =
-    let same : length xs ≡ lenOf t = ap length is ∙ part-length src (startOf t) (lenOf t) (inside .1) in
-    omega (arith, leb-true (at + (50 + 2 * k)) n (sym test ∙ good))
-
-pub number-lined : (place k : ℕ) (s : Says) (w : Walk) (old : List ℕ) (b : Bool) (r m : ℕ) (z : Walk) (last : List ℕ) → w .mode ≡ 3 → b ≡ leb (w .value + 70) (length old) → b ≡ true → m ≡ k
-    → Puts (w .value) (lineText (line place m s)) old r last → z ≡ lining (w .at) r → 70 ≡ needOf s → here z last ≡ putLine (line place k s) (here w old)
-number-lined place k s w old b r m z last e test good size p q is =
-    lined (line place k s) w old 70 b r z last e is test good (puts-same (ap (λ x. lineText (line place x s)) size) p) q
-
-pub number-not-lined : (place k : ℕ) (s : Says) (w : Walk) (old : List ℕ) (b : Bool) (f : Refusal) (z : Walk) → w .mode ≡ 3 → b ≡ leb (w .value + 70) (length old) → b ≡ false → f ≡ noRoom 0 70 → z ≡ refusing f → 70 ≡ needOf s
-    → here z old ≡ putLine (line place k s) (here w old)
-number-not-lined place k s w old b f z e test bad why q is = not-lined (line place k s) w old 70 b f z e is test bad why q
+pub number-lined : (place m k : ℕ) (s : Says) (w : Walk) (old : List ℕ) (r : ℕ) (z : Walk) (last : List ℕ) → w .mode ≡ 3 → w .value ≤ 0x1000000 → m ≡ k → Fits (w .value) (lineText (line place m s)) old r last → z ≡ lining (w .at) (w .value + r)
+    → here z last ≡ putLine (line place k s) (here w old)
+number-lined place m k s w old r z last e near size p q = lined (line place k s) w old r z last e near (fits-same (ap (λ x. lineText (line place x s)) size) p) q
 
 -- and that of bytes
-module _ (place : ℕ) (t : Span) (src : List ℕ) (w : Walk) (old : List ℕ) (inside : (lenOf t ≤ 0x10001) × (startOf t + lenOf t ≤ length src)) where
-  need-is : (k : ℕ) → k ≡ lenOf t → 50 + 2 * k ≡ needOf (spanLine place (startOf t) (lenOf t) src .says)
-  need-is k e = let size = cut-length src (startOf t) (lenOf t) 0 (inside .1) in omega arith
+module _ (place : ℕ) (t : Span) (src xs : List ℕ) (inside : (lenOf t ≤ 0x10001) × (startOf t + lenOf t ≤ length src)) (is : xs ≡ partOf (cut src (startOf t) (lenOf t) 0)) where
+  pub bytes-few : length xs ≤ 0x10001
+  bytes-few = omega (arith, ap length is, part-length src (startOf t) (lenOf t) (inside .1))
 
-  pub bytes-lined : (b : Bool) (r k : ℕ) (z : Walk) (xs last : List ℕ) → w .mode ≡ 3 → k ≡ lenOf t → b ≡ leb (w .value + (50 + 2 * k)) (length old) → b ≡ true → xs ≡ partOf (cut src (startOf t) (lenOf t) 0)
-      → Puts (w .value) (lineText (line place (length xs) (theBytes xs))) old r last → z ≡ lining (w .at) r → here z last ≡ putLine (spanLine place (startOf t) (lenOf t) src) (here w old)
-  bytes-lined b r k z xs last e size test good is p q =
-      lined (spanLine place (startOf t) (lenOf t) src) w old (50 + 2 * k) b r z last e (need-is k size) test good (puts-same (ap lineText (span-says src place t (inside .1) is)) p) q
-
-  pub bytes-not-lined : (b : Bool) (k : ℕ) (f : Refusal) (z : Walk) → w .mode ≡ 3 → k ≡ lenOf t → b ≡ leb (w .value + (50 + 2 * k)) (length old) → b ≡ false → f ≡ noRoom 0 (50 + 2 * k) → z ≡ refusing f
-      → here z old ≡ putLine (spanLine place (startOf t) (lenOf t) src) (here w old)
-  bytes-not-lined b k f z e size test bad why q = not-lined (spanLine place (startOf t) (lenOf t) src) w old (50 + 2 * k) b f z e (need-is k size) test bad why q
+  pub bytes-lined : (w : Walk) (old : List ℕ) (r : ℕ) (z : Walk) (last : List ℕ) → w .mode ≡ 3 → w .value ≤ 0x1000000 → Fits (w .value) (lineText (line place (length xs) (theBytes xs))) old r last → z ≡ lining (w .at) (w .value + r)
+      → here z last ≡ putLine (spanLine place (startOf t) (lenOf t) src) (here w old)
+  bytes-lined w old r z last e near p q = lined (spanLine place (startOf t) (lenOf t) src) w old r z last e near (fits-same (ap lineText (span-says src place t (inside .1) is)) p) q

@@ -1,6 +1,5 @@
 -- What a walk puts that is for lines, over any steps: the text of their lines. Assumes nothing.
 use Prim.Native.Nat.{ℕ, zero, suc, _+_, _*_, _≤_}
-use native.Mathlib.Nat.{zero-add}
 use native.Mathlib.Omega.{arith}
 use mathlib.Core.Path.{_≡_, refl, sym, ap, _∙_, subst}
 use mathlib.Core.Bool.{true}
@@ -29,13 +28,63 @@ use Rattle.text.proofs.Putting.{puts-length, puts-then, puts-none}
 use Rattle.text.proofs.Rows.{number-line-length, bytes-line-length}
 use Rattle.steps.specs.declared.walk.Walk.{Walk}
 use Rattle.steps.specs.Steps.{Step, Number, Plain, Buffer, Items, Due, spell, spellStep, laid, itemsLines, leftLines, stepLines, linesOf}
-use Rattle.steps.specs.Walks.{Here, here, lining, needOf, putLine, putLines, toPlace, onTo, lineStep, stepWalk, run, Walks}
+use Rattle.steps.specs.Walks.{Here, here, lining, putLine, putLines, toPlace, onTo, lineStep, stepWalk, run, Walks}
 use Rattle.steps.proofs.Reach.{items-legal, count-few}
 use Rattle.steps.proofs.Spelled.{next-step, step-is, cut-is}
 
--- ---- lines, where there is room for them
+-- ---- lines, put where they fit
 
--- how long lines are at most
+-- the text of lines behind lines
+text-append : (ls ms : List Line) → linesText (ls ++ ms) ≡ linesText ls ++ linesText ms
+text-append [] ms = refl
+text-append (l ∷ ls) ms = ap (λ x. lineText l ++ x) (text-append ls ms) ∙ sym (append-assoc (lineText l) (linesText ls) (linesText ms))
+
+-- the text was counted from the place v on, and the record's place is `at`; where all of it fits, it was put
+record LinesTo (at v : ℕ) (text old : List ℕ) (h : Here) : Type 0 where
+  pub counted : h .walk ≡ lining at (v + length text)
+  pub puts : v + length text ≤ length old → Puts v text old (v + length text) (h .out)
+
+put-line : (l : Line) (at v : ℕ) (old : List ℕ) → v ≤ 0x1000000 → LinesTo at v (lineText l) old (putLine l (here (lining at v) old))
+unfolding putLine
+put-line l at v old near =
+    rw (le-leb v 0x1000000 near)
+    (record { counted = refl; puts = λ room. rw (le-leb (v + length (lineText l)) (length old) room) (record { behind = refl; holds = refl }) })
+
+no-lines-put : (at v : ℕ) (old : List ℕ) → LinesTo at v [] old (here (lining at v) old)
+no-lines-put at v old = let here-still : v ≡ v + 0 = omega arith in record { counted = ap (λ n. lining at n) here-still; puts = λ room. subst (λ n. Puts v [] old n old) here-still (puts-none v old) }
+
+-- a text, and another behind it
+lines-then : {a b v : ℕ} {xs ys old : List ℕ} {h g : Here} → LinesTo a v xs old h → LinesTo b (v + length xs) ys (h .out) g → LinesTo b v (xs ++ ys) old g
+lines-then {b = b} {v = v} {xs = xs} {ys = ys} {old = old} {g = g} p q =
+    let place : v + length xs + length ys ≡ v + length (xs ++ ys) = omega (arith, length-append xs ys) in
+    record {
+      counted = q .counted ∙ ap (λ n. lining b n) place;
+      puts = λ room.
+          let fits : v + length xs ≤ length old = omega arith in
+          let first = p .puts fits in
+          subst (λ n. Puts v (xs ++ ys) old n (g .out)) place (puts-then fits first (q .puts (omega (arith, puts-length fits first))));
+    }
+
+-- the place that was come to, and the buffer there
+come : {a v : ℕ} {xs old : List ℕ} {h : Here} → LinesTo a v xs old h → here (lining a (v + length xs)) (h .out) ≡ h
+come {h = h} p = ap (λ w. here w (h .out)) (sym (p .counted))
+
+put-lines : (ls : List Line) (at v : ℕ) (old : List ℕ) → v + length (linesText ls) ≤ 0x1000000 → LinesTo at v (linesText ls) old (putLines ls (here (lining at v) old))
+unfolding putLines
+put-lines [] at v old near = no-lines-put at v old
+put-lines (l ∷ ls) at v old near =
+    let size = length-append (lineText l) (linesText ls) in
+    let p = put-line l at v old (omega arith) in
+    let mid = putLine l (here (lining at v) old) .out in
+    lines-then p (subst (λ g. LinesTo at (v + length (lineText l)) (linesText ls) mid (putLines ls g)) (come p) (put-lines ls at (v + length (lineText l)) mid (omega arith)))
+
+-- ---- how long lines are at most
+
+abbrev needOf : Says → ℕ
+needOf (aCode n) = 70
+needOf (aNumber n) = 70
+needOf (theBytes xs) = 50 + 2 * length xs
+
 abbrev needs : List Line → ℕ
 needs [] = 0
 needs (l ∷ ls) = needOf (l .says) + needs ls
@@ -49,45 +98,9 @@ line-need place size (aCode n) = number-line-length place size Word.Code n
 line-need place size (aNumber n) = number-line-length place size Word.Number n
 line-need place size (theBytes xs) = bytes-line-length place size xs
 
--- the text of lines behind lines
-text-append : (ls ms : List Line) → linesText (ls ++ ms) ≡ linesText ls ++ linesText ms
-text-append [] ms = refl
-text-append (l ∷ ls) ms = ap (λ x. lineText l ++ x) (text-append ls ms) ∙ sym (append-assoc (lineText l) (linesText ls) (linesText ms))
-
 text-need : (ls : List Line) → length (linesText ls) ≤ needs ls
 text-need [] = omega arith
 text-need (l ∷ ls) = omega (arith, length-append (lineText l) (linesText ls), line-need (l .place) (l .size) (l .says), text-need ls)
-
--- at the place v of what was `old` the text was put, and the record's place is `at`
-record LinesTo (at v : ℕ) (text old : List ℕ) (h : Here) : Type 0 where
-  pub place : ℕ
-  pub put : h .walk ≡ lining at place
-  pub puts : Puts v text old place (h .out)
-
-put-line : (l : Line) (at v : ℕ) (old : List ℕ) → v + needOf (l .says) ≤ length old → LinesTo at v (lineText l) old (putLine l (here (lining at v) old))
-unfolding putLine
-put-line l at v old room =
-    rw (le-leb (v + needOf (l .says)) (length old) room) (record { place = v + length (lineText l); put = refl; puts = record { behind = refl; holds = refl } })
-
--- a text, and another behind it
-lines-then : {a b v : ℕ} {xs ys old : List ℕ} {h g : Here} (p : LinesTo a v xs old h) → v + length xs ≤ length old → LinesTo b (p .place) ys (h .out) g → LinesTo b v (xs ++ ys) old g
-lines-then p fits q = let there = p .puts .behind in record { place = q .place; put = q .put; puts = puts-then (omega arith) (p .puts) (q .puts) }
-
--- the place that was come to, and the buffer there
-come : {a v : ℕ} {xs old : List ℕ} {h : Here} (p : LinesTo a v xs old h) → here (lining a (p .place)) (h .out) ≡ h
-come {h = h} p = ap (λ w. here w (h .out)) (sym (p .put))
-
-left-room : {a v : ℕ} {xs old : List ℕ} {h : Here} (p : LinesTo a v xs old h) (k n : ℕ) → length xs ≤ k → v + (k + n) ≤ length old → p .place + n ≤ length (h .out)
-left-room p k n few room = let there = p .puts .behind in omega (arith, puts-length (omega arith) (p .puts))
-
-put-lines : (ls : List Line) (at v : ℕ) (old : List ℕ) → v + needs ls ≤ length old → LinesTo at v (linesText ls) old (putLines ls (here (lining at v) old))
-unfolding putLines
-put-lines [] at v old room = record { place = v; put = refl; puts = puts-none v old }
-put-lines (l ∷ ls) at v old room =
-    let few = line-need (l .place) (l .size) (l .says) in
-    let p = put-line l at v old (omega arith) in
-    let rest = put-lines ls at (p .place) (putLine l (here (lining at v) old) .out) (left-room p (needOf (l .says)) (needs ls) few (omega arith)) in
-    lines-then p (omega arith) (subst (λ g. LinesTo at (p .place) (linesText ls) (putLine l (here (lining at v) old) .out) (putLines ls g)) (come p) rest)
 
 -- ---- how long the lines of a legal step are
 
@@ -169,13 +182,12 @@ step-lined (Due u c b) src at v old p near = due-lined at v old (ap length (step
 
 on-to : {a v : ℕ} {xs old : List ℕ} {h : Here} (e : ℕ) → LinesTo a v xs old h → LinesTo e v xs old (onTo e h)
 unfolding toPlace
-on-to e p = record { place = p .place; put = ap (λ w. toPlace e w) (p .put); puts = p .puts }
+on-to e p = record { counted = ap (λ w. toPlace e w) (p .counted); puts = p .puts }
 
-step-lines : (s : Step) (src : List ℕ) (at v : ℕ) (old : List ℕ) {xs : List ℕ} → spellStep s src at ≡ found xs → at ≤ 0x10000 → v + (3110 + 2 * length xs) ≤ length old
+step-lines : (s : Step) (src : List ℕ) (at v : ℕ) (old : List ℕ) {xs : List ℕ} → spellStep s src at ≡ found xs → at ≤ 0x10000 → v + length (linesText (stepLines s src at)) ≤ 0x1000000
     → LinesTo (at + length xs) v (linesText (stepLines s src at)) old (lineStep s src (lining at v) old)
-step-lines s src at v old {xs} p near room =
-    let few = step-needs s src at p in
-    subst (λ g. LinesTo (at + length xs) v (linesText (stepLines s src at)) old g) (sym (step-lined s src at v old p near)) (on-to (at + length xs) (put-lines (stepLines s src at) at v old (omega arith)))
+step-lines s src at v old {xs} p near short =
+    subst (λ g. LinesTo (at + length xs) v (linesText (stepLines s src at)) old g) (sym (step-lined s src at v old p near)) (on-to (at + length xs) (put-lines (stepLines s src at) at v old short))
 
 -- ---- steps one behind the other
 
@@ -193,25 +205,24 @@ lines-cons s ss src at = sym (text-append (stepLines s src at) (linesOf ss src (
 
 none-lines : (src : List ℕ) (at v : ℕ) (old : List ℕ) {bs : List ℕ} → spell [] src at ≡ found bs → LinesTo (at + length bs) v (linesText (linesOf [] src at)) old (run [] src (here (lining at v) old))
 unfolding run spell linesOf
-none-lines src at v old {bs} p = let none : at ≡ at + length bs = omega (arith, ap length (found-same p)) in record { place = v; put = ap (λ n. lining n v) none; puts = puts-none v old }
+none-lines src at v old {bs} p = let none : at ≡ at + length bs = omega (arith, ap length (found-same p)) in subst (λ n. LinesTo n v [] old (here (lining at v) old)) none (no-lines-put at v old)
 
-run-lines : (ss : List Step) (src : List ℕ) (at v : ℕ) (old bs : List ℕ) → spell ss src at ≡ found bs → at + length bs ≤ 0x10000 → v + (3110 * length ss + 2 * length bs) ≤ length old
+run-lines : (ss : List Step) (src : List ℕ) (at v : ℕ) (old bs : List ℕ) → spell ss src at ≡ found bs → at + length bs ≤ 0x10000 → v + length (linesText (linesOf ss src at)) ≤ 0x1000000
     → LinesTo (at + length bs) v (linesText (linesOf ss src at)) old (run ss src (here (lining at v) old))
-run-lines [] src at v old bs p near room = none-lines src at v old p
-run-lines (s ∷ ss) src at v old bs p near room =
+run-lines [] src at v old bs p near short = none-lines src at v old p
+run-lines (s ∷ ss) src at v old bs p near short =
     let n = next-step s ss src at p in
-    let e = step-bytes s ss src at p in
     let xs = laid s src in
     let h = lineStep s src (lining at v) old in
+    let text = linesText (stepLines s src at) in
+    let left = linesText (linesOf ss src (at + length xs)) in
     let size = ap length (n .split) ∙ length-append xs (n .left) in
-    let first = step-lines s src at v old e (omega arith) (omega arith) in
-    let few : length (linesText (stepLines s src at)) ≤ 3110 + 2 * length xs = omega (arith, text-need (stepLines s src at), step-needs s src at e) in
-    let rest = run-lines ss src (at + length xs) (first .place) (h .out) (n .left) (n .spelled) (omega arith) (left-room first (3110 + 2 * length xs) (3110 * length ss + 2 * length (n .left)) few (omega arith)) in
-    let all = lines-then first (omega arith) (subst (λ g. LinesTo (at + length xs + length (n .left)) (first .place) (linesText (linesOf ss src (at + length xs))) (h .out) (run ss src g)) (come first) rest) in
+    let whole = ap length (sym (lines-cons s ss src at)) ∙ length-append text left in
+    let first = step-lines s src at v old (step-bytes s ss src at p) (omega arith) (omega arith) in
+    let rest = run-lines ss src (at + length xs) (v + length text) (h .out) (n .left) (n .spelled) (omega arith) (omega arith) in
+    let all = lines-then first (subst (λ g. LinesTo (at + length xs + length (n .left)) (v + length text) left (h .out) (run ss src g)) (come first) rest) in
     let stop : at + length xs + length (n .left) ≡ at + length bs = omega arith in
-    let there = subst (λ k. LinesTo k v (linesText (stepLines s src at) ++ linesText (linesOf ss src (at + length xs))) old (run ss src h)) stop all in
-    let text = subst (λ t. LinesTo (at + length bs) v t old (run ss src h)) (lines-cons s ss src at) there in
-    subst (λ g. LinesTo (at + length bs) v (linesText (linesOf (s ∷ ss) src at)) old g) (run-cons s ss src at v old) text
+    rw (← lines-cons s ss src at, ← run-cons s ss src at v old, ← stop) all
 
 -- and how long their lines are
 lines-few : (ss : List Step) (src : List ℕ) (at : ℕ) {bs : List ℕ} → spell ss src at ≡ found bs → length (linesText (linesOf ss src at)) ≤ 3110 * length ss + 2 * length bs
@@ -225,16 +236,16 @@ lines-few (s ∷ ss) src at p =
 
 -- ---- a record
 
--- there is room for the lines of 24 steps and of 4096 bytes
+-- of 24 steps and 4096 bytes: how long its lines are is counted, and where they fit they are put
 pub walk-lists : (k : ℕ) (l : Layout) (ps ls : List Part) (src old last : List ℕ) (u w : Walk) (v : ℕ) (bs : List ℕ) → u ≡ lining 0 v → Walks k l ps ls src (here u old) (here w last) → lay l ps src 0 ≡ found bs
-    → leb k 24 ≡ true → length bs ≤ 4096 → v + 82832 ≤ length old → (w ≡ lining (length bs) (w .value)) × Puts v (linesText (lines l ps src 0)) old (w .value) last × (w .value ≤ v + 82832)
-walk-lists k l ps ls src old last u w v bs begin p laid few small room =
+    → leb k 24 ≡ true → length bs ≤ 4096 → v ≤ 0x10000
+    → (w .value ≡ v + length (linesText (lines l ps src 0))) × (v + length (linesText (lines l ps src 0)) ≤ length old → Puts v (linesText (lines l ps src 0)) old (v + length (linesText (lines l ps src 0))) last) × (length (linesText (lines l ps src 0)) ≤ 82832)
+walk-lists k l ps ls src old last u w v bs begin p laid few small near =
     let most = leb-true k 24 few in
     let there = p .goes .same ∙ ap (λ x. run (p .steps) src (here x old)) begin in
     let spelled = sym (p .plans .lays src 0) ∙ laid in
-    let q = run-lines (p .steps) src 0 v old bs spelled (omega arith) (omega (arith, p .few)) in
     let short = lines-few (p .steps) src 0 spelled in
     let shown = ap (λ ls. length (linesText ls)) (p .plans .shows src 0 laid) in
+    let q = run-lines (p .steps) src 0 v old bs spelled (omega arith) (omega (arith, p .few)) in
     let r : LinesTo (0 + length bs) v (linesText (lines l ps src 0)) old (here w last) = rw (← p .plans .shows src 0 laid, there) q in
-    let place : w .value ≡ r .place = ap (λ x. x .value) (r .put) in
-    (r .put ∙ ap (λ n. lining n (r .place)) (zero-add (length bs)) ∙ ap (λ n. lining (length bs) n) (sym place), rw place (r .puts), omega (arith, r .puts .behind, p .few))
+    (ap (λ x. x .value) (r .counted), r .puts, omega (arith, p .few))

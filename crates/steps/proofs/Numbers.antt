@@ -22,7 +22,7 @@ use Rattle.text.specs.declared.line.Word.{Word}
 use Rattle.text.specs.Text.{sayWord}
 use Rattle.steps.specs.declared.walk.Walk.{Walk}
 use Rattle.steps.specs.Steps.{Number, spellStep}
-use Rattle.steps.specs.Walks.{Here, here, judging, refusing, far, after, judged, judgeStep, putOne, putStep, seekStep, needOf, lineIf, forLines, putLine, putLines, toPlace, onTo, lineStep, stepBy, stepWalk, run, numberBy, numberWalk, Numbers}
+use Rattle.steps.specs.Walks.{Here, here, judging, refusing, far, after, judged, judgeStep, putOne, putStep, seekStep, lineAt, forLines, putLine, putLines, toPlace, onTo, lineStep, stepBy, stepWalk, run, numberBy, numberWalk, Numbers}
 
 module _ (good : Bool) (k : Word) (w : Width) (n : ℕ) (f : Refusal) (rule : Rule) (u : Walk) (src out : List ℕ) where
   judges : good ≡ allows rule n → f ≡ breach rule (u .at) n → n < 256 ^ widthOf w → cond good (judging (u .at + widthOf w)) (refusing f) ≡ judged (after (u .at) (spellStep (Number w rule n) src (u .at)))
@@ -97,9 +97,9 @@ module _ (good : Bool) (k : Word) (w : Width) (n : ℕ) (f : Refusal) (u : Walk)
       there : Here → Here
       there h = onTo (u .at + widthOf w) h
 
-      idle : (m : ℕ) → u .mode ≡ m → forLines m (here u out) (lineIf (leb (u .value + needOf (sayWord k n)) (length out)) (line (u .at) (widthOf w) (sayWord k n)) (here u out)) ≡ here u out → toPlace (u .at + widthOf w) u ≡ u
+      idle : (m : ℕ) → u .mode ≡ m → forLines m (here u out) (lineAt (line (u .at) (widthOf w) (sayWord k n)) (here u out)) ≡ here u out → toPlace (u .at + widthOf w) u ≡ u
           → there (here v mid) ≡ here u out
-      idle m e l t = ap there (p ∙ ap (λ x. forLines x (here u out) (lineIf (leb (u .value + needOf (sayWord k n)) (length out)) (line (u .at) (widthOf w) (sayWord k n)) (here u out))) e ∙ l) ∙ ap (λ x. here x out) t
+      idle m e l t = ap there (p ∙ ap (λ x. forLines x (here u out) (lineAt (line (u .at) (widthOf w) (sayWord k n)) (here u out))) e ∙ l) ∙ ap (λ x. here x out) t
 
       by : (m : ℕ) → u .mode ≡ m → there (here v mid) ≡ numberBy m good k w n f u out
       by zero e = absurd (a e)

@@ -14,12 +14,13 @@ use Rattle.wire.specs.declared.width.Width.{Width}
 use Rattle.wire.specs.Answers.{widthOf, startOf, lenOf}
 use Rattle.wire.specs.Bytes.{digits}
 use Rattle.wire.specs.Layout.{Rule, Layout}
-use Rattle.wire.specs.Lines.{Says, aCode, aNumber, theBytes, Line, line}
+use Rattle.wire.specs.Lines.{Line, line}
 use Rattle.wire.specs.Records.{Part, Ans, found, refused, next}
 use Rattle.wire.specs.Writing.{cut}
 use Rattle.wire.specs.Filling.{written, filled}
 use Rattle.wire.specs.Places.{startIf}
 use Rattle.text.specs.declared.line.Word.{Word}
+use Rattle.text.specs.Puts.{fitted}
 use Rattle.text.specs.Text.{sayWord, lineText}
 use Rattle.steps.specs.Steps.{Step, Number, Plain, Buffer, Items, Due, spellStep, stepLines, Plans}
 use Rattle.steps.specs.declared.walk.Walk.{Walk}
@@ -46,7 +47,7 @@ putting at = record { mode = 1; at = at; value = 0 }
 abbrev pub seeking : ℕ → Walk
 seeking i = record { mode = 2; at = i; value = 0 }
 
--- 3: the lines of a listing are put; `at` is the place of the next field, `end` that in the text
+-- 3: the lines of a listing are put; `at` is the place of the next field, `end` that in the text: so many bytes it has so far
 abbrev pub lining : (at end : ℕ) → Walk
 lining at end = record { mode = 3; at = at; value = end }
 
@@ -62,7 +63,7 @@ finding t = record { mode = 5; at = startOf t; value = lenOf t }
 abbrev pub refusing : Refusal → Walk
 refusing f = record { mode = suc (suc (suc (suc (suc (paper (f .fault) .number))))); at = f .place; value = f .value }
 
--- behind so many bytes nothing is judged or listed; no record is so long
+-- behind so many bytes, of a record or of a text, nothing is judged or listed; none is so long
 abbrev pub far : ℕ
 far = 0x1000000
 
@@ -154,19 +155,14 @@ seekAnswer w asked src = foundBy (w .mode) w asked src
 abbrev pub seekStart : Walk → List ℕ → ℕ
 seekStart w src = startIf (seekAnswer w 0 src) (w .at)
 
--- ---- lines, put one behind the other where there is room
+-- ---- lines, one behind the other: each is put where it fits, and counted in any case
 
--- how long a line is at most
-abbrev pub needOf : Says → ℕ
-needOf (aCode n) = 70
-needOf (aNumber n) = 70
-needOf (theBytes xs) = 50 + 2 * length xs
-
-abbrev pub lineIf : Bool → Line → Here → Here
-lineIf true l h =
-    here (lining (h .walk .at) (h .walk .value + length (lineText l)))
-    (take (h .walk .value) (h .out) ++ (lineText l ++ drop (h .walk .value + length (lineText l)) (h .out)))
-lineIf false l h = here (refusing (noRoom 0 (needOf (l .says)))) (h .out)
+-- the text goes on behind the line, there or not; behind so many bytes nothing is listed
+abbrev pub lineAt : Line → Here → Here
+lineAt l h =
+    cond (leb (h .walk .value) far)
+    (here (lining (h .walk .at) (h .walk .value + length (lineText l))) (fitted (h .walk .value) (lineText l) (h .out)))
+    h
 
 -- what is done by a walk that is for lines; another stays as it is
 abbrev pub forLines : (mode : ℕ) → Here → Here → Here
@@ -177,7 +173,7 @@ forLines (suc (suc (suc zero))) h g = g
 forLines (suc (suc (suc (suc n)))) h g = h
 
 unfoldable pub putLine : Line → Here → Here
-putLine l h = forLines (h .walk .mode) h (lineIf (leb (h .walk .value + needOf (l .says)) (length (h .out))) l h)
+putLine l h = forLines (h .walk .mode) h (lineAt l h)
 
 unfoldable pub putLines : List Line → Here → Here
 putLines [] h = h

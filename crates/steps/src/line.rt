@@ -1,29 +1,21 @@
-// Lines of a listing, put by a walk one behind the other. A walk that is for something else passes them.
+// Lines of a listing, put by a walk one behind the other where they fit, and counted in any case. A walk that is for something else
+// passes them.
+use crate::walk::FAR;
 use crate::walk::LINES;
 use crate::walk::Walk;
 use crate::walk::lining;
-use crate::walk::refusing;
-use faults::Refusal;
 use text::line::Word;
-use text::line::put_bytes_line;
-use text::line::put_number_line;
+use text::line::fit_bytes_line;
+use text::line::fit_number_line;
 use wire::span::Span;
 use wire::width::Width;
 ghost use mathlib.Core.Path.{_≡_};
 ghost use Prim.Native.Nat.{_+_, _≤_};
-ghost use lib.Dec.{leb};
 ghost use lib.ListN.{length};
 ghost use Rattle.wire.specs.Answers.{widthOf, startOf, lenOf};
 ghost use Rattle.wire.specs.Lines.{line, spanLine};
 ghost use Rattle.text.specs.Text.{sayWord};
 ghost use Rattle.steps.specs.Walks.{here, putLine, toPlace};
-
-// There is room for k bytes at the place `at` of n.
-fn room(at: usize, k: usize, n: usize) -> bool
-    ensures { λ r. ⌜ r ≡ leb (at + k) n ⌝ }
-{
-    if at <= n { k <= n - at } else { false }
-}
 
 impl Walk {
     // The line of a number that stands at `place`.
@@ -32,10 +24,10 @@ impl Walk {
     {
         if self.mode == LINES {
             let at = self.value as usize;
-            if room(at, 70, out.len()) {
-                return lining(self.at, put_number_line(place, w.bytes(), word, n, out, at));
+            if at <= FAR {
+                let k = fit_number_line(place, w.bytes(), word, n, out, at);
+                return lining(self.at, at + k);
             }
-            return refusing(Refusal::no_room(0, 70));
         }
         self
     }
@@ -47,12 +39,10 @@ impl Walk {
     {
         if self.mode == LINES {
             let at = self.value as usize;
-            let len = span.len();
-            let need = 50 + 2 * len;
-            if room(at, need, out.len()) {
-                return lining(self.at, put_bytes_line(place, span.part(src), out, at));
+            if at <= FAR {
+                let k = fit_bytes_line(place, span.part(src), out, at);
+                return lining(self.at, at + k);
             }
-            return refusing(Refusal::no_room(0, need));
         }
         self
     }

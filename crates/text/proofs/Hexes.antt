@@ -4,7 +4,7 @@ use native.Mathlib.Numerals.{add-one}
 use native.Mathlib.Omega.{arith}
 use mathlib.Core.Path.{_≡_, refl, sym, ap, _∙_, subst}
 use mathlib.Core.List.{List, [], _∷_, _++_}
-use lib.ListN.{length, take, getD}
+use lib.ListN.{length, take, getD, length-append}
 use lib.Seq.{take-suc, take-all}
 use Rattle.io.specs.Digits.{glyph}
 use Rattle.text.specs.Puts.{Puts}
@@ -31,6 +31,19 @@ hex-some (x ∷ xs) h = refl
 pub hex-length : (xs : List ℕ) → length (hex xs) ≤ 2 * length xs + 1
 hex-length [] = omega arith
 hex-length (x ∷ xs) = omega (arith, pairs-length (x ∷ xs))
+
+-- with the line's end
+pub end-none : (xs : List ℕ) → length xs ≡ 0 → 2 ≡ length (hex xs ++ ascii "\n")
+end-none [] e = refl
+end-none (x ∷ xs) e = absurd (omega arith)
+
+pub end-some : (xs : List ℕ) → (length xs ≡ 0 → ⊥) → 2 * length xs + 1 ≡ length (hex xs ++ ascii "\n")
+end-some [] h = absurd (h refl)
+end-some (x ∷ xs) h = omega (arith, length-append (pairs (x ∷ xs)) (ascii "\n"), pairs-length (x ∷ xs))
+
+pub end-room : (xs : List ℕ) → 2 * length xs + 1 ≤ length (hex xs ++ ascii "\n")
+end-room [] = omega arith
+end-room (x ∷ xs) = omega (arith, length-append (pairs (x ∷ xs)) (ascii "\n"), pairs-length (x ∷ xs))
 
 -- i bytes are put
 pub record Paired (xs old : List ℕ) (at : ℕ) (out : List ℕ) (end i : ℕ) : Type 0 where

@@ -1,16 +1,16 @@
 -- Bytes put one behind the other. Assumes nothing.
 use Prim.Native.Nat.{ℕ, suc, _+_, _-_, _≤_}
 use native.Mathlib.Omega.{arith}
-use mathlib.Core.Path.{_≡_, refl, sym, ap, _∙_}
-use mathlib.Core.Bool.{true}
+use mathlib.Core.Path.{_≡_, refl, sym, ap, _∙_, subst}
+use mathlib.Core.Bool.{Bool, true, false}
 use mathlib.Core.List.{List, [], _∷_, _++_, append-assoc}
 use lib.ListN.{length, take, drop, set, length-append, length-drop, take-append-drop}
 use lib.Seq.{take-at, drop-at, drop-drop, length-take-le, sets, sets-eq}
 use lib.Dec.{leb}
-use borrow.Author.Tests.{le-leb}
+use borrow.Author.Tests.{le-leb, lt-leb, leb-true}
 use Rattle.wire.specs.Records.{found}
 use Rattle.wire.specs.Filling.{filled}
-use Rattle.text.specs.Puts.{Puts}
+use Rattle.text.specs.Puts.{Puts, Fits}
 
 -- with room, what a writer leaves is the bytes and what was there around them
 pub filled-puts : (at : ℕ) (bs old : List ℕ) {last : List ℕ} {n : ℕ} → n ≡ length bs → at + n ≤ length old → last ≡ filled at (found bs) old → Puts at bs old (at + n) last
@@ -65,3 +65,39 @@ puts-then {at} {m} {r} {xs} {ys} {old} {mid} {last} h p q =
 -- nothing
 pub puts-none : (at : ℕ) (old : List ℕ) → Puts at [] old at old
 puts-none at old = let here : at ≡ at + 0 = omega arith in record { behind = here; holds = sym (take-append-drop at old) ∙ ap (λ n. take at old ++ drop n old) here }
+
+-- ---- bytes that are put if they fit
+
+-- where there is room
+pub room-there : (b : Bool) (at k n : ℕ) → b ≡ leb (at + k) n → b ≡ true → at + k ≤ n
+room-there b at k n test good = leb-true (at + k) n (sym test ∙ good)
+
+pub fitted-room : {b : Bool} (at : ℕ) (bs old : List ℕ) {n : ℕ} → n ≡ length bs → b ≡ leb (at + n) (length old) → b ≡ true → at + length bs ≤ length old
+fitted-room {b} at bs old {n} size test good = let room = room-there b at n (length old) test good in omega arith
+
+pub fits-exactly : {b : Bool} {at : ℕ} {bs old : List ℕ} {n r : ℕ} {last : List ℕ} → n ≡ length bs → b ≡ leb (at + n) (length old) → b ≡ true → Puts at bs old r last → Fits at bs old n last
+fits-exactly {at = at} {bs = bs} {old = old} size test good p =
+    let some : leb (at + length bs) (length old) ≡ true = ap (λ n. leb (at + n) (length old)) (sym size) ∙ sym test ∙ good in
+    record { size = size; holds = rw some (p .holds) }
+
+-- where there is room for k bytes, and there are no more
+pub fits-at-once : {b : Bool} {at : ℕ} {bs old : List ℕ} (k : ℕ) {r : ℕ} {last : List ℕ} → length bs ≤ k → b ≡ leb (at + k) (length old) → b ≡ true → Puts at bs old r last → Fits at bs old (r - at) last
+fits-at-once {b} {at} {bs} {old} k few test good p =
+    let room = room-there b at k (length old) test good in
+    record { size = omega (arith, p .behind); holds = rw (le-leb (at + length bs) (length old) (omega arith)) (p .holds) }
+
+-- where there is none
+pub fits-not : {b : Bool} (at : ℕ) (bs old : List ℕ) {n : ℕ} → n ≡ length bs → b ≡ leb (at + n) (length old) → b ≡ false → Fits at bs old n old
+fits-not at bs old size test bad =
+    let none : leb (at + length bs) (length old) ≡ false = ap (λ n. leb (at + n) (length old)) (sym size) ∙ sym test ∙ bad in
+    record { size = size; holds = rw none }
+
+-- bytes that were made beside
+pub made : {bs old : List ℕ} {k : ℕ} {row : List ℕ} → Puts 0 bs old k row → take k row ≡ bs
+made {bs} {old} {k} p = ap (λ l. take k l) (p .holds) ∙ take-at bs (drop (0 + length bs) old) k (omega (arith, p .behind))
+
+pub fits-same : {at : ℕ} {xs ys old : List ℕ} {r : ℕ} {last : List ℕ} → xs ≡ ys → Fits at xs old r last → Fits at ys old r last
+fits-same {at} {old = old} {r = r} {last = last} e p = subst (λ bs. Fits at bs old r last) e p
+
+pub made-inside : {bs old : List ℕ} {k : ℕ} {row : List ℕ} (m : ℕ) → Puts 0 bs old k row → length bs ≤ m → m ≤ length old → k ≤ length row
+made-inside m p few room = let fits : _ = p .behind in omega (arith, puts-length (omega arith) p)

@@ -26,6 +26,12 @@ module _ {at : ℕ} {xs old : List ℕ} {m : ℕ} {mid : List ℕ} (k : ℕ) (p 
 pub head-length : (place size : ℕ) → length (decimal place ++ (ascii " " ++ decimal size)) ≤ 41
 head-length place size = omega (arith, length-append (decimal place) (ascii " " ++ decimal size), decimal-length place, decimal-length size)
 
+abbrev bytesHead : (place size : ℕ) → List ℕ
+bytesHead place size = (decimal place ++ (ascii " " ++ decimal size)) ++ ascii " bytes "
+
+pub bytes-head-length : (place size : ℕ) → length (bytesHead place size) ≤ 48
+bytes-head-length place size = omega (arith, length-append (decimal place ++ (ascii " " ++ decimal size)) (ascii " bytes "), head-length place size)
+
 pub word-length : (w : Word) → length (wordText w) ≤ 8
 word-length Word.Code = omega arith
 word-length Word.Number = omega arith
@@ -44,9 +50,10 @@ number-line place size w n = head-joined place size (wordText w ++ (decimal n ++
     by Word.Number = sym (append-assoc (wordText Word.Number) (decimal n) (ascii "\n"))
 
 pub bytes-line : (place size : ℕ) (xs : List ℕ)
-    → (decimal place ++ (ascii " " ++ decimal size)) ++ (ascii " bytes " ++ (hex xs ++ ascii "\n")) ≡ lineText (line place size (theBytes xs))
+    → bytesHead place size ++ (hex xs ++ ascii "\n") ≡ lineText (line place size (theBytes xs))
 bytes-line place size xs =
-    head-joined place size (ascii " bytes " ++ (hex xs ++ ascii "\n"))
+    append-assoc (decimal place ++ (ascii " " ++ decimal size)) (ascii " bytes ") (hex xs ++ ascii "\n")
+    ∙ head-joined place size (ascii " bytes " ++ (hex xs ++ ascii "\n"))
     ∙ ap (λ x. decimal place ++ (ascii " " ++ (decimal size ++ x))) (sym (append-assoc (ascii " bytes ") (hex xs) (ascii "\n")))
 
 pub puts-same : {at : ℕ} {xs ys old : List ℕ} {r : ℕ} {last : List ℕ} → xs ≡ ys → Puts at xs old r last → Puts at ys old r last
@@ -62,9 +69,27 @@ number-line-length place size w n =
 
 pub bytes-line-length : (place size : ℕ) (xs : List ℕ) → length (lineText (line place size (theBytes xs))) ≤ 50 + 2 * length xs
 bytes-line-length place size xs =
-    let texts = hex xs ++ ascii "\n" in
-    let whole = ap length (sym (bytes-line place size xs)) in
-    omega (arith, length-append (decimal place ++ (ascii " " ++ decimal size)) (ascii " bytes " ++ texts), head-length place size, length-append (hex xs) (ascii "\n"), hex-length xs)
+    omega (arith, ap length (sym (bytes-line place size xs)), length-append (bytesHead place size) (hex xs ++ ascii "\n"), bytes-head-length place size, length-append (hex xs) (ascii "\n"), hex-length xs)
+
+-- ---- the line of bytes in two parts, where it fits
+
+module _ (place size : ℕ) (xs : List ℕ) where
+  parts : length (lineText (line place size (theBytes xs))) ≡ length (bytesHead place size) + length (hex xs ++ ascii "\n")
+  parts = ap length (sym (bytes-line place size xs)) ∙ length-append (bytesHead place size) (hex xs ++ ascii "\n")
+
+  -- how long it is, if its front was made beside
+  pub bytes-line-size : {blank row : List ℕ} {k n : ℕ} → Puts 0 (bytesHead place size) blank k row → n ≡ length (hex xs ++ ascii "\n") → k + n ≡ length (lineText (line place size (theBytes xs)))
+  bytes-line-size p e = omega (arith, p .behind, parts)
+
+  pub bytes-line-front : (at : ℕ) {front : List ℕ} (old : List ℕ) → at + length (lineText (line place size (theBytes xs))) ≤ length old → front ≡ bytesHead place size → at + length front ≤ length old
+  bytes-line-front at old room e = omega (arith, ap length e, parts)
+
+  module _ {at m : ℕ} {old mid : List ℕ} (room : at + length (lineText (line place size (theBytes xs))) ≤ length old) (p : Puts at (bytesHead place size) old m mid) where
+    pub bytes-line-left : m + length (hex xs ++ ascii "\n") ≤ length mid
+    bytes-line-left = puts-left (length (bytesHead place size)) p (omega arith) (length (hex xs ++ ascii "\n")) (omega (arith, parts))
+
+    pub bytes-line-both : {r : ℕ} {last : List ℕ} → Puts m (hex xs ++ ascii "\n") mid r last → Puts at (lineText (line place size (theBytes xs))) old r last
+    bytes-line-both q = puts-same (bytes-line place size xs) (puts-both (length (bytesHead place size)) p (omega arith) (omega (arith, parts)) q)
 
 -- ---- words with numbers behind them
 

@@ -1,13 +1,15 @@
 // The lines that say how a record was answered.
 use crate::line::put_line_end;
+use crate::put::fit_text;
 use crate::put::put_decimal;
 use crate::put::put_text;
+use crate::put::room;
 use faults::Refusal;
 ghost use mathlib.Core.List.{_++_};
 ghost use Prim.Native.Nat.{_+_, _≤_};
 ghost use lib.ListN.{length};
 ghost use Rattle.faults.specs.Faults.{paper};
-ghost use Rattle.text.specs.Puts.{Puts};
+ghost use Rattle.text.specs.Puts.{Puts, Fits};
 ghost use Rattle.text.specs.Text.{decimal, readText, refusedText};
 
 // A word, and a number behind it.
@@ -20,7 +22,7 @@ fn put_said(word: &[u8], n: u64, out: &mut [u8], at: usize) -> usize
 }
 
 // `kind K read E tail T`
-pub fn put_read_line(kind: u8, end: usize, tail: usize, out: &mut [u8], at: usize) -> usize
+fn put_read_line(kind: u8, end: usize, tail: usize, out: &mut [u8], at: usize) -> usize
     requires { ⌜ at + 78 ≤ length (now out) ⌝ }
     ensures { λ r. ⌜ Puts at (readText kind end tail) (now (out .entry)) r (now (out .exit)) ⌝ }
 {
@@ -34,7 +36,7 @@ pub fn put_read_line(kind: u8, end: usize, tail: usize, out: &mut [u8], at: usiz
 }
 
 // `kind K refused N at P value V`
-pub fn put_refusal_line(kind: u8, f: Refusal, out: &mut [u8], at: usize) -> usize
+fn put_refusal_line(kind: u8, f: Refusal, out: &mut [u8], at: usize) -> usize
     requires { ⌜ at + 106 ≤ length (now out) ⌝ }
     ensures { λ r. ⌜ Puts at (refusedText kind (paper (f .fault) .number) (f .place) (f .value)) (now (out .entry)) r (now (out .exit)) ⌝ }
 {
@@ -48,4 +50,28 @@ pub fn put_refusal_line(kind: u8, f: Refusal, out: &mut [u8], at: usize) -> usiz
     let c = put_said(&third, f.place as u64, out, b);
     let d = put_said(&fourth, f.value, out, c);
     put_line_end(out, d)
+}
+
+// The first line of a record that was read, at the place `at` of out if it fits there; and how long it is.
+pub fn fit_read_line(kind: u8, end: usize, tail: usize, out: &mut [u8], at: usize) -> usize
+    ensures { λ r. ⌜ Fits at (readText kind end tail) (now (out .entry)) r (now (out .exit)) ⌝ }
+{
+    if room(at, 78, out.len()) {
+        return put_read_line(kind, end, tail, out, at) - at;
+    }
+    let mut row = [0u8; 78];
+    let k = put_read_line(kind, end, tail, &mut row, 0);
+    fit_text(&row[..k], out, at)
+}
+
+// The line of a refusal, at the place `at` of out if it fits there; and how long it is.
+pub fn fit_refusal_line(kind: u8, f: Refusal, out: &mut [u8], at: usize) -> usize
+    ensures { λ r. ⌜ Fits at (refusedText kind (paper (f .fault) .number) (f .place) (f .value)) (now (out .entry)) r (now (out .exit)) ⌝ }
+{
+    if room(at, 106, out.len()) {
+        return put_refusal_line(kind, f, out, at) - at;
+    }
+    let mut row = [0u8; 106];
+    let k = put_refusal_line(kind, f, &mut row, 0);
+    fit_text(&row[..k], out, at)
 }

@@ -3,9 +3,17 @@ ghost use mathlib.Core.Path.{_≡_};
 ghost use mathlib.Core.List.{[], _∷_, _++_};
 ghost use Prim.Native.Nat.{_+_, _*_, _≤_, _<_};
 ghost use Rattle.io.specs.Digits.{glyph, digits, Fewest};
+ghost use lib.Dec.{leb};
 ghost use lib.ListN.{length, take, drop};
-ghost use Rattle.text.specs.Puts.{Puts};
+ghost use Rattle.text.specs.Puts.{Puts, Fits};
 ghost use Rattle.text.specs.Text.{decimal, pairs, hex};
+
+// There is room for k bytes at the place `at` of n.
+pub(crate) fn room(at: usize, k: usize, n: usize) -> bool
+    ensures { λ r. ⌜ r ≡ leb (at + k) n ⌝ }
+{
+    if at <= n { k <= n - at } else { false }
+}
 
 // All of a text at the place `at` of out, and the place behind it.
 pub(crate) fn put_text(text: &[u8], out: &mut [u8], at: usize) -> usize
@@ -19,6 +27,17 @@ pub(crate) fn put_text(text: &[u8], out: &mut [u8], at: usize) -> usize
         i += 1;
     }
     at + len
+}
+
+// All of a text at the place `at` of out, if it fits there; and how long it is.
+pub(crate) fn fit_text(text: &[u8], out: &mut [u8], at: usize) -> usize
+    ensures { λ r. ⌜ Fits at (now (text .entry)) (now (out .entry)) r (now (out .exit)) ⌝ }
+{
+    let len = text.len();
+    if room(at, len, out.len()) {
+        put_text(text, out, at);
+    }
+    len
 }
 
 // A digit below 10.

@@ -1,20 +1,17 @@
--- The deposit is empty, or its first byte is the kind. Assumes nothing.
+-- There is room for any, or for this one; or it is refused. Assumes nothing.
 use borrow.Author.Needs.{needs}
 use native.Mathlib.Omega.{arith}
-use Rattle.listing.proofs.Deposits.{empty-listing, kind-listing, listed, not-listed}
+use mathlib.Core.Logic.{⊎-elim}
+use Rattle.listing.proofs.Deposits.{listed, not-listed}
 use Rattle.listing.proofs.deposit.list_deposit.Statement.{statement}
 use Rattle.listing.proofs.deposit.list_deposit.Tie as tie
 
 returns : tie.Need-returns
-returns c = not-listed _ _ (c .no-room .ensures) (omega arith)
+returns c = not-listed _ _ (c .no-room .ensures) (c .before .before .listing-size .ensures) (c .before .if2 .taken)
 
 returns-2 : tie.Need-returns-2
-returns-2 c = listed _ (empty-listing _ (omega arith)) (omega arith) (c .before .before .put-record .ensures)
-
-returns-3 : tie.Need-returns-3
-returns-3 c = listed _ (kind-listing _ (omega arith)) (omega arith) (c .before .before .put-record2 .ensures)
+returns-2 c = let counts = (c .before .before .put-deposit .ensures) in listed _ (⊎-elim (λ w. omega (arith, w .1 .ensures .0, w .2 .left)) (λ w. omega (arith, counts .most, w .left)) (c .before .before .before .before .if1 .came)) counts
 
 pub list-deposit-spec : {M : Type 1} → statement M
 list-deposit-spec = tie.close (tie.spec
-    (search needs) returns (search needs) (search needs) returns-2 (search needs) (search needs) (search needs) (search needs)
-    (search needs) (search needs) returns-3)
+    (search needs) (search needs) returns (search needs) (search needs) returns-2)
