@@ -6,7 +6,7 @@ use mathlib.Core.Path.{_≡_, refl, sym, ap, _∙_}
 use mathlib.Core.Bool.{Bool, true, false, cond}
 use mathlib.Core.List.{List, [], _∷_}
 use lib.ListN.{length}
-use lib.Dec.{eqb}
+use lib.Dec.{eqb, leb}
 use borrow.Author.Tests.{eqb-true}
 use Rattle.faults.specs.Faults.{noField}
 use Rattle.wire.specs.declared.choice.Choice.{Choice}
@@ -48,6 +48,17 @@ Selections l ps ls = ListsOf (mostItems PcrSelection) (itemLayout PcrSelection) 
 pub lists-of-a-selection-list : (x : TpmlPcrSelection) → ListsOf (mostItems PcrSelection) (itemLayout PcrSelection) tpmlPcrSelection (tpmlPcrSelectionParts x) (tpmlPcrSelectionParts x)
 unfolding tpmlPcrSelection
 lists-of-a-selection-list x = one-list here
+
+-- an attestation has no more than one
+pub one-list-at-most : (u : TpmuAttest) → leb (length (tpmuAttestLists u)) 1 ≡ true
+one-list-at-most (TpmuAttest.Certify i) = refl
+one-list-at-most (TpmuAttest.Creation i) = refl
+one-list-at-most (TpmuAttest.Quote i) = refl
+one-list-at-most (TpmuAttest.CommandAudit i) = refl
+one-list-at-most (TpmuAttest.SessionAudit i) = refl
+one-list-at-most (TpmuAttest.Time i) = refl
+one-list-at-most (TpmuAttest.Nv i) = refl
+one-list-at-most (TpmuAttest.NvDigest i) = refl
 
 -- the arm that a legal union holds is the one that its selector chooses
 held-is-chosen : (c : Choice) (body : ℕ → Layout) (v : ℕ) (src : List ℕ) (ps : List Part) {ts : List Token} {bs : List ℕ} → Spells (union c body v) ts bs → ts ≡ shown src ps → c ≡ The (unions.held ps)

@@ -6,6 +6,7 @@ use mathlib.Core.Bool.{true, false}
 use mathlib.Core.List.{List}
 use lib.ListN.{length, take}
 use lib.Dec.{leb}
+use borrow.Author.Tests.{leb-true}
 use Rattle.faults.specs.declared.Refusal.{Refusal}
 use Rattle.faults.specs.Faults.{badKind}
 use Rattle.wire.specs.declared.measure.Measure.{Measure}
@@ -38,8 +39,8 @@ none-walked l y src f w r out e is = record { walked = λ p. absurd (found-refus
 
 module _ {A : Type 0} (ans : A → Ans Parsed) (a b : A) (l : Layout) (y : Ans Parsed) (src : List ℕ) where
   -- a record was read, and its fields were walked over; where it ends does not matter
-  pub as-walked : (k : ℕ) (ps ls : List Part) (u v : Here) → Walks k l ps ls src u v → a ≡ b → ans a ≡ y → next (ans b) (λ r. found (r .parts)) ≡ found ps → leb k 24 ≡ true → WalkOf l src y u v
-  as-walked k ps ls u v p q told is few = record { walked = λ e. (ls, subst (λ qs. Walks 24 l qs ls src u v) (same e) (by-more src k 24 l ps ls u v p few)); none = λ e. absurd (found-refused (no-parts e)) }
+  pub as-walked : (k : ℕ) (ps ls : List Part) (u v : Here) → Walks k l ps ls src u v → a ≡ b → ans a ≡ y → next (ans b) (λ r. found (r .parts)) ≡ found ps → leb k 24 ≡ true → leb (length ls) 1 ≡ true → WalkOf l src y u v
+  as-walked k ps ls u v p q told is few one = record { walked = λ e. (ls, subst (λ qs. Walks 24 l qs ls src u v) (same e) (by-more src k 24 l ps ls u v p few), leb-true (length ls) 1 one); none = λ e. absurd (found-refused (no-parts e)) }
     where
       answered : {x : Ans Parsed} → y ≡ x → ans b ≡ x
       answered e = sym (ap ans q) ∙ told ∙ e
@@ -79,8 +80,8 @@ copied k src old mid last u w v z r b begin first ready second told = by (readKi
   where
     by : (y : Ans Parsed) → readKind k src 0 ≡ y → Copies k src old r last
     by (found x) e =
-        let (ls, p) = first .walked e in
-        let (ms, q) = second .walked e in
+        let (ls, p, one) = first .walked e in
+        let (ms, q, one) = second .walked e in
         let done = marshalled 24 (layoutOf k) (x .parts) ls ms src old mid last u w v z r begin p ready q told refl in
         let bytes = read-bytes k src x b e in
         copies k src old last r b (done .answer ∙ ap (λ a. written 0 a old) bytes ∙ rw e) (done .buffer ∙ ap (λ a. filled 0 a old) bytes ∙ rw e)

@@ -23,10 +23,10 @@ fn write_listing(deposit: &[u8], out: &mut [u8]) {
 fn write_again_line(bytes: &[u8], out: &mut [u8]) {
     let word = [b'a', b'g', b'a', b'i', b'n', b' '];
     let end = [b'\n'];
-    if bytes.len() > 4096 {
+    if bytes.len() > 4095 {
         return;
     }
-    if out.len() < 8193 {
+    if out.len() < 8191 {
         return;
     }
     io::write_all(1, &word);

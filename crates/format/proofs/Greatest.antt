@@ -1,19 +1,20 @@
 -- The greatest record of each kind: no record is larger, and one is so large. Assumes nothing.
-use Prim.Native.Nat.{ℕ, _+_, _≤_}
+use Prim.Native.Nat.{ℕ, zero, suc, _+_, _≤_}
 use native.Mathlib.Omega.{arith}
 use mathlib.Core.Path.{refl}
 use mathlib.Core.Bool.{Bool, true, false, cond}
 use mathlib.Core.List.{List, [], _∷_}
 use lib.Dec.{eqb}
+use lib.ListN.{getD}
 use Rattle.wire.specs.declared.choice.Choice.{Choice}
 use Rattle.wire.specs.declared.choice.Choice.the-variants.{Nothing, The}
-use Rattle.wire.specs.Layout.{Rule, Layout, stop, number, plain, one, free}
+use Rattle.wire.specs.Layout.{Rule, Layout, stop, noArm, number, plain, one, free}
 use Rattle.wire.specs.Sizes.{AtMost, Reaches, Greatest}
 use Rattle.wire.specs.Unions.{Row, bodyOf, union}
 use Rattle.wire.proofs.Sizes.{stop-most, no-arm-most, arm-most, number-most, plain-most, buffer-most, then-most, most-wider, stop-reaches, arm-reaches, number-reaches, plain-reaches, buffer-reaches, then-reaches}
 use Rattle.format.specs.declared.list.ListOf.the-variants.{PcrSelection}
 use Rattle.codes.specs.Codes.{algorithms, attestations, isAlgorithm, isAttestation, alg, curve, attestation, yesNo, magic}
-use Rattle.format.specs.Kinds.{tpmuHaTable, tpmuAsymSchemeTable, tpmuSigSchemeTable, tpmuKeyedhashSchemeTable, tpmuKdfSchemeTable, tpmuSymKeyBitsTable, tpmuSymModeTable, tpmuPublicParmsTable, tpmuPublicIdTable, tpmuSensitiveCompositeTable, tpmuSignatureTable, tpmuAttestTable, tpmuHaArm, tpmuAsymSchemeArm, tpmuSigSchemeArm, tpmuKeyedhashSchemeArm, tpmuKdfSchemeArm, tpmuSymKeyBitsArm, tpmuSymModeArm, tpmuPublicParmsArm, tpmuPublicIdArm, tpmuSensitiveCompositeArm, tpmuSignatureArm, tpmuAttestArm, tpmsSchemeHash, tpmsSchemeXor, tpmuHa, tpmuAsymScheme, tpmuSigScheme, tpmuKeyedhashScheme, tpmuKdfScheme, tpmuSymKeyBits, tpmuSymMode, tpmuPublicParms, tpmuPublicId, tpmuSensitiveComposite, tpmuSignature, tpmuAttest, tpmtHa, tpmtSymDef, tpmtKdfScheme, tpmtKeyedhashScheme, tpmtSigScheme, tpmtAsymScheme, tpmsRsaParms, tpmsEccParms, tpmsEccPoint, tpmsSignatureRsa, tpmsSignatureEcc, tpmtPublicParms, tpmtSignature, tpmtPublic, tpmtSensitive, tpmlPcrSelection, tpmsClockInfo, tpmsCertifyInfo, tpmsCreationInfo, tpmsQuoteInfo, tpmsCommandAuditInfo, tpmsSessionAuditInfo, tpmsTimeInfo, tpmsTimeAttestInfo, tpmsNvCertifyInfo, tpmsNvDigestCertifyInfo, tpmsAttest, kinds}
+use Rattle.format.specs.Kinds.{tpmuHaTable, tpmuAsymSchemeTable, tpmuSigSchemeTable, tpmuKeyedhashSchemeTable, tpmuKdfSchemeTable, tpmuSymKeyBitsTable, tpmuSymModeTable, tpmuPublicParmsTable, tpmuPublicIdTable, tpmuSensitiveCompositeTable, tpmuSignatureTable, tpmuAttestTable, tpmuHaArm, tpmuAsymSchemeArm, tpmuSigSchemeArm, tpmuKeyedhashSchemeArm, tpmuKdfSchemeArm, tpmuSymKeyBitsArm, tpmuSymModeArm, tpmuPublicParmsArm, tpmuPublicIdArm, tpmuSensitiveCompositeArm, tpmuSignatureArm, tpmuAttestArm, tpmsSchemeHash, tpmsSchemeXor, tpmuHa, tpmuAsymScheme, tpmuSigScheme, tpmuKeyedhashScheme, tpmuKdfScheme, tpmuSymKeyBits, tpmuSymMode, tpmuPublicParms, tpmuPublicId, tpmuSensitiveComposite, tpmuSignature, tpmuAttest, tpmtHa, tpmtSymDef, tpmtKdfScheme, tpmtKeyedhashScheme, tpmtSigScheme, tpmtAsymScheme, tpmsRsaParms, tpmsEccParms, tpmsEccPoint, tpmsSignatureRsa, tpmsSignatureEcc, tpmtPublicParms, tpmtSignature, tpmtPublic, tpmtSensitive, tpmlPcrSelection, tpmsClockInfo, tpmsCertifyInfo, tpmsCreationInfo, tpmsQuoteInfo, tpmsCommandAuditInfo, tpmsSessionAuditInfo, tpmsTimeInfo, tpmsTimeAttestInfo, tpmsNvCertifyInfo, tpmsNvDigestCertifyInfo, tpmsAttest, kinds, layoutOf}
 use Rattle.format.specs.Sizes.{greatest, AllGreatest}
 use Rattle.format.proofs.Tables.{_&_}
 use Rattle.format.proofs.Lists.{list-greatest}
@@ -333,3 +334,28 @@ greatest-sizes =
     & both attest-most attest-reaches
     & both pcr-most pcr-reaches
     & tt
+
+-- ---- and any
+
+abbrev Within : ℕ → List ℕ → Type 0
+Within m [] = Unit {0}
+Within m (n ∷ ns) = (n ≤ m) × Within m ns
+
+all-within : Within 2287 greatest
+unfolding greatest
+all-within =
+    omega arith & omega arith & omega arith & omega arith & omega arith & omega arith & omega arith & omega arith & omega arith & omega arith
+    & omega arith & omega arith & omega arith & omega arith & tt
+
+each-most : {m : ℕ} (ls : List Layout) (ns : List ℕ) → AllGreatest ls ns → Within m ns → (k : ℕ) → AtMost (getD ls k (noArm 0)) m
+each-most {m} [] [] g w k = no-arm-most 0 m
+each-most [] (n ∷ ns) g w k = absurd g
+each-most (l ∷ ls) [] g w k = absurd g
+each-most (l ∷ ls) (n ∷ ns) (g, gs) (h, hs) zero = most-wider h (g .most)
+each-most (l ∷ ls) (n ∷ ns) (g, gs) (h, hs) (suc k) = each-most ls ns gs hs k
+
+-- no record of any kind has more than 2,287 bytes
+pub no-record-is-larger : (k : ℕ) → AtMost (layoutOf k) 2287
+unfolding layoutOf
+no-record-is-larger zero = no-arm-most 0 2287
+no-record-is-larger (suc k) = each-most kinds greatest greatest-sizes all-within k

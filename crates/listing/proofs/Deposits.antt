@@ -18,14 +18,16 @@ use Rattle.wire.specs.Answers.{measureAnswer}
 use Rattle.wire.proofs.Rest.{told}
 use Rattle.wire.proofs.Steps.{found-refused, found-same, refused-same, next-found, when-found}
 use Rattle.format.specs.Kinds.{isKind, layoutOf, readKind}
+use Rattle.format.proofs.Greatest.{no-record-is-larger}
 use Rattle.wire.specs.Lines.{lines}
 use Rattle.text.specs.Puts.{Puts, Fits}
 use Rattle.text.specs.Text.{linesText, readText, refusedText}
-use Rattle.text.proofs.Putting.{puts-length, puts-then}
+use Rattle.text.proofs.Putting.{puts-length, puts-then, fits-puts}
 use Rattle.text.proofs.Rows.{read-text-length, refused-text-length}
 use Rattle.steps.specs.declared.walk.Walk.{Walk}
 use Rattle.steps.specs.Walks.{here, lining}
 use Rattle.steps.proofs.Listed.{walk-lists}
+use Rattle.records.proofs.Promises.{read-is-legal}
 use Rattle.copies.specs.Walked.{WalkOf}
 use Rattle.copies.proofs.Rewritten.{read-record-lies-in-its-source}
 use Rattle.copies.proofs.Walked.{read-bytes}
@@ -74,12 +76,8 @@ pub refused-listed : (k : ℕ) (bs : List ℕ) {f : Refusal} → judged k bs ≡
 unfolding recordText
 refused-listed k bs e = ap (λ a. answerText k bs a) (sym e)
 
--- where a text fits it is put
-fits-puts : {at : ℕ} {bs old : List ℕ} {r : ℕ} {last : List ℕ} → at + length bs ≤ length old → Fits at bs old r last → Puts at bs old (at + length bs) last
-fits-puts {at} {bs} {old} room p = record { behind = refl; holds = p .holds ∙ rw (le-leb (at + length bs) (length old) room) }
-
 -- a text that is put at the start
-started : {text other old last : List ℕ} {r m : ℕ} → text ≡ other → m ≡ length text → length text ≤ 98304 → (length text ≤ length old → Puts 0 text old r last) → Counts other old m last
+started : {text other old last : List ℕ} {r m : ℕ} → text ≡ other → m ≡ length text → length text ≤ 8192 → (length text ≤ length old → Puts 0 text old r last) → Counts other old m last
 started {text} {other} {old} {last} {m = m} same size most put =
     subst (λ t. Counts t old m last) same (record {
       size = size;
@@ -104,7 +102,7 @@ pub record ReadAs (k : ℕ) (bs : List ℕ) (e : ℕ) : Type 0 where
   pub answer : readKind k bs 0 ≡ parsed parts e
   pub listed : judged k bs ≡ parsed parts e
   pub inside : e ≤ length bs
-  pub short : length bs ≤ 4096
+  pub most : e ≤ 2287
 
 pub read-as : (k : ℕ) (bs : List ℕ) {m : Measure} {e : ℕ} → Bytes bs → measureAnswer m ≡ endOf (judged k bs) → m ≡ Measure.Size e → ReadAs k bs e
 unfolding judged
@@ -113,9 +111,15 @@ read-as k bs {e = e} b p given =
     let there : judged k bs ≡ parsed (r .parts) e = answer ∙ ap (λ n. parsed (r .parts) n) (found-same stops) in
     let (some, x) = when-found (isKind k) _ _ there in
     let (few, y) = when-found (leb (length bs) 4096) _ _ x in
-    let short = leb-true (length bs) 4096 few in
     let (from, inside) = read-record-lies-in-its-source k bs 0 b y in
-    record { parts = r .parts; answer = sym (judged-read k bs short) ∙ there; listed = there; inside = inside; short = short }
+    let start = read-is-legal k bs 0 (record { parts = r .parts; stops = e }) b y in
+    record {
+      parts = r .parts;
+      answer = sym (judged-read k bs (leb-true (length bs) 4096 few)) ∙ there;
+      listed = there;
+      inside = inside;
+      most = omega (arith, start .ends, no-record-is-larger k (start .tokens) (start .front) (start .spells));
+    }
 
 -- the first line is put, and behind it those that a walk over the record puts
 pub record-listed : {k : ℕ} {bs : List ℕ} {e : ℕ} → ReadAs k bs e → Bytes bs → {old mid last : List ℕ} {m : ℕ} {u w : Walk} → Fits 0 (readText k e (length bs - e)) old m mid
@@ -125,10 +129,10 @@ record-listed {k} {bs} {e} read b {old} {mid} {last} {m} {u} {w} first begin wal
     let text = linesText (lines (layoutOf k) (read .parts) bs 0) in
     let near : length head ≤ 78 = read-text-length k e (length bs - e) in
     let size = first .size in
-    let (ls, p) = walks .walked (read .answer) in
+    let (ls, p, one) = walks .walked (read .answer) in
     let laid = read-bytes k bs _ b (read .answer) in
-    let few : length (take e bs) ≤ 4096 = omega (arith, length-take-le e bs (read .inside), read .inside, read .short) in
-    let (count, put, most) = walk-lists 24 (layoutOf k) (read .parts) ls bs mid last u w m (take e bs) begin p laid refl few (omega arith) in
+    let few : length (take e bs) ≤ 2287 = omega (arith, length-take-le e bs (read .inside), read .most) in
+    let (count, put, most) = walk-lists 24 (layoutOf k) (read .parts) ls bs mid last u w m (take e bs) begin p laid refl one (omega arith) (omega arith) in
     let both = length-append head text in
     started (read-listed k bs (read .listed)) (omega arith) (omega arith)
     (λ room.
@@ -182,7 +186,7 @@ listed {text} {old} room p =
       most = p .most;
     }
 
-pub not-listed : {text old : List ℕ} {n : ℕ} {f : Refusal} → f ≡ noRoom 0 n → (n ≡ length text) × (n ≤ 98304) → length old < n → Lists text old (Measure.No f) old
+pub not-listed : {text old : List ℕ} {n : ℕ} {f : Refusal} → f ≡ noRoom 0 n → (n ≡ length text) × (n ≤ 8192) → length old < n → Lists text old (Measure.No f) old
 not-listed {text} {old} e (size, most) small =
     let short = lt-leb (length text) (length old) (omega arith) in
     record {

@@ -1,5 +1,5 @@
 -- What a walk puts that is for lines, over any steps: the text of their lines. Assumes nothing.
-use Prim.Native.Nat.{ℕ, zero, suc, _+_, _*_, _≤_}
+use Prim.Native.Nat.{ℕ, zero, suc, _+_, _*_, _≤_, _<_}
 use native.Mathlib.Omega.{arith}
 use mathlib.Core.Path.{_≡_, refl, sym, ap, _∙_, subst}
 use mathlib.Core.Bool.{true}
@@ -7,15 +7,18 @@ use mathlib.Core.List.{List, [], _∷_, _++_, append-assoc}
 use lib.ListN.{length, take, drop, length-append, length-take}
 use lib.Dec.{leb}
 use borrow.Author.Tests.{le-leb, leb-true}
+use Rattle.wire.specs.declared.span.Span.{Span}
 use Rattle.wire.specs.Answers.{widthOf, startOf, lenOf}
 use Rattle.wire.specs.Bytes.{be, digits}
 use Rattle.wire.specs.Layout.{Rule, free, listed, fixed, lengthTo, countTo, Layout}
 use Rattle.wire.specs.Lines.{Says, aCode, aNumber, theBytes, Line, line, sayNumber, lines, ofRead}
 use Rattle.wire.specs.Records.{Part, num, span, found, next, left, Parsed}
-use Rattle.wire.specs.Reading.{piece, field, walk, list, read}
+use Rattle.wire.specs.Reading.{piece, field, walk, read}
 use Rattle.wire.specs.Writing.{cut, whole, lay}
 use Rattle.wire.proofs.Digits.{length-digits}
-use Rattle.wire.proofs.Steps.{found-same, parsed-same, next-found}
+use Rattle.wire.proofs.Cuts.{cut-length}
+use Rattle.wire.proofs.Stand.{stands-left}
+use Rattle.wire.proofs.Steps.{found-same, parsed-same, next-found, piece-found}
 use Rattle.wire.proofs.Written.{moved-found}
 use Rattle.codes.specs.Codes.{alg}
 use Rattle.format.specs.declared.list.ListOf.{ListOf}
@@ -25,9 +28,10 @@ use Rattle.text.specs.Puts.{Puts}
 use Rattle.text.specs.declared.line.Word.{Word}
 use Rattle.text.specs.Text.{lineText, linesText}
 use Rattle.text.proofs.Putting.{puts-length, puts-then, puts-none}
-use Rattle.text.proofs.Rows.{number-line-length, bytes-line-length}
+use Rattle.text.proofs.Decimals.{decimal-few}
+use Rattle.text.proofs.Rows.{number-line-most, bytes-line-most}
 use Rattle.steps.specs.declared.walk.Walk.{Walk}
-use Rattle.steps.specs.Steps.{Step, Number, Plain, Buffer, Items, Due, spell, spellStep, laid, itemsLines, leftLines, stepLines, linesOf}
+use Rattle.steps.specs.Steps.{Step, Number, Plain, Buffer, Items, Due, spell, spellStep, laid, itemsLines, leftLines, stepLines, linesOf, listsOf}
 use Rattle.steps.specs.Walks.{Here, here, lining, putLine, putLines, toPlace, onTo, lineStep, stepWalk, run, Walks}
 use Rattle.steps.proofs.Reach.{items-legal, count-few}
 use Rattle.steps.proofs.Spelled.{next-step, step-is, cut-is}
@@ -78,33 +82,41 @@ put-lines (l ∷ ls) at v old near =
     let mid = putLine l (here (lining at v) old) .out in
     lines-then p (subst (λ g. LinesTo at (v + length (lineText l)) (linesText ls) mid (putLines ls g)) (come p) (put-lines ls at (v + length (lineText l)) mid (omega arith)))
 
--- ---- how long lines are at most
+-- ---- how long lines are at most, if no place and no size has more than four digits
 
 abbrev needOf : Says → ℕ
-needOf (aCode n) = 70
-needOf (aNumber n) = 70
-needOf (theBytes xs) = 50 + 2 * length xs
+needOf (aCode n) = 38
+needOf (aNumber n) = 38
+needOf (theBytes xs) = 18 + 2 * length xs
 
 abbrev needs : List Line → ℕ
 needs [] = 0
 needs (l ∷ ls) = needOf (l .says) + needs ls
 
+abbrev Short : List Line → Type 0
+Short [] = Unit {0}
+Short (l ∷ ls) = (l .place < 10000) × (l .size < 10000) × Short ls
+
 needs-append : (ls ms : List Line) → needs (ls ++ ms) ≡ needs ls + needs ms
 needs-append [] ms = omega arith
 needs-append (l ∷ ls) ms = omega (arith, needs-append ls ms)
 
-line-need : (place size : ℕ) (s : Says) → length (lineText (line place size s)) ≤ needOf s
-line-need place size (aCode n) = number-line-length place size Word.Code n
-line-need place size (aNumber n) = number-line-length place size Word.Number n
-line-need place size (theBytes xs) = bytes-line-length place size xs
+short-append : (ls ms : List Line) → Short ls → Short ms → Short (ls ++ ms)
+short-append [] ms p q = q
+short-append (l ∷ ls) ms (a, b, p) q = (a, b, short-append ls ms p q)
 
-text-need : (ls : List Line) → length (linesText ls) ≤ needs ls
-text-need [] = omega arith
-text-need (l ∷ ls) = omega (arith, length-append (lineText l) (linesText ls), line-need (l .place) (l .size) (l .says), text-need ls)
+line-need : (place size : ℕ) (s : Says) → place < 10000 → size < 10000 → length (lineText (line place size s)) ≤ needOf s
+line-need place size (aCode n) a b = omega (arith, number-line-most place size Word.Code n, decimal-few place a, decimal-few size b)
+line-need place size (aNumber n) a b = omega (arith, number-line-most place size Word.Number n, decimal-few place a, decimal-few size b)
+line-need place size (theBytes xs) a b = omega (arith, bytes-line-most place size xs, decimal-few place a, decimal-few size b)
+
+text-need : (ls : List Line) → Short ls → length (linesText ls) ≤ needs ls
+text-need [] p = omega arith
+text-need (l ∷ ls) (a, b, p) = omega (arith, length-append (lineText l) (linesText ls), line-need (l .place) (l .size) (l .says) a b, text-need ls p)
 
 -- ---- how long the lines of a legal step are
 
-number-need : (r : Rule) (n : ℕ) → needOf (sayNumber r n) ≡ 70
+number-need : (r : Rule) (n : ℕ) → needOf (sayNumber r n) ≡ 38
 number-need free n = refl
 number-need (listed p) n = refl
 number-need (fixed p) n = refl
@@ -112,55 +124,101 @@ number-need (lengthTo m) n = refl
 number-need (countTo m) n = refl
 
 -- the bits of a selection follow its bank and their size, and end it
-selection-shape : (xs : List ℕ) (at : ℕ) {r : Parsed} → read tpmsPcrSelection xs at ≡ found r → (n : ℕ) × (m : ℕ) × (r .parts ≡ num n ∷ span (at + 2 + 1) m ∷ []) × (r .stops ≡ at + 2 + 1 + m)
-unfolding read tpmsPcrSelection
+selection-shape : (xs : List ℕ) (at : ℕ) {r : Parsed} → read tpmsPcrSelection xs at ≡ found r
+    → (n : ℕ) × (m : ℕ) × (r .parts ≡ num n ∷ span (at + 2 + 1) m ∷ []) × (r .stops ≡ at + 2 + 1 + m) × (at + 2 + 1 + m ≤ length xs)
+unfolding read tpmsPcrSelection field
 selection-shape xs at p =
     let (n, a, q) = next-found (field 2 alg xs at) _ p in
     let (r, l, s) = next-found (next (field 1 (lengthTo 4) xs (at + 2)) _) _ q in
     let (m, d, f) = next-found (field 1 (lengthTo 4) xs (at + 2)) _ l in
     let (ys, g, h) = next-found (piece m xs (at + 2 + 1)) _ f in
+    let (bits, o, t) = next-found (piece 1 xs (at + 2)) _ d in
     let inner = found-same h in
     let (parts, stops) = parsed-same (sym s) in
-    (n, m, parts ∙ ap (λ z. num n ∷ z .parts) (sym inner), stops ∙ ap (λ z. z .stops) (sym inner))
+    let (size, stands) = piece-found m xs (at + 2 + 1) g in
+    let (one, there) = piece-found 1 xs (at + 2) o in
+    (n, m, parts ∙ ap (λ z. num n ∷ z .parts) (sym inner), stops ∙ ap (λ z. z .stops) (sym inner), omega (arith, stands-left stands, stands-left there))
 
-selection-needs : (xs : List ℕ) (place n a m : ℕ) {ps : List Part} → ps ≡ num n ∷ span a m ∷ [] → needs (lines tpmsPcrSelection ps xs place) ≤ 190 + 2 * m
+selection-needs : (xs : List ℕ) (place n a m : ℕ) {ps : List Part} → ps ≡ num n ∷ span a m ∷ [] → needs (lines tpmsPcrSelection ps xs place) ≤ 94 + 2 * m
 unfolding lines tpmsPcrSelection
 selection-needs xs place n a m e = rw e (omega (arith, length-take m (drop a xs)))
 
+selection-short : (xs : List ℕ) (place n a m : ℕ) {ps : List Part} → ps ≡ num n ∷ span a m ∷ [] → place + 3 + m < 10000 → Short (lines tpmsPcrSelection ps xs place)
+unfolding lines tpmsPcrSelection
+selection-short xs place n a m e near = rw e (omega arith, omega arith, (omega arith, omega arith, (omega arith, omega arith, tt)))
+
 -- a line a list: what the lines of an item need, besides two digits a byte, and those of all its items
-item-needs : (which : ListOf) (xs : List ℕ) (at place : ℕ) {r : Parsed} → read (itemLayout which) xs at ≡ found r → needs (lines (itemLayout which) (r .parts) xs place) + 2 * at ≤ 190 + 2 * r .stops
+item-needs : (which : ListOf) (xs : List ℕ) (at place : ℕ) {r : Parsed} → read (itemLayout which) xs at ≡ found r → needs (lines (itemLayout which) (r .parts) xs place) + 2 * at ≤ 94 + 2 * r .stops
 item-needs PcrSelection xs at place p =
-    let (n, m, parts, stops) = selection-shape xs at p in
+    let (n, m, parts, stops, inside) = selection-shape xs at p in
     omega (arith, selection-needs xs place n (at + 2 + 1) m parts, stops)
+
+item-short : (which : ListOf) (xs : List ℕ) (at place : ℕ) {r : Parsed} → read (itemLayout which) xs at ≡ found r → place + length xs < 10000 → Short (lines (itemLayout which) (r .parts) xs (place + at))
+item-short PcrSelection xs at place p near =
+    let (n, m, parts, stops, inside) = selection-shape xs at p in
+    selection-short xs (place + at) n (at + 2 + 1) m parts (omega arith)
 
 few-items : (which : ListOf) → mostItems which ≤ 16
 few-items PcrSelection = omega arith
 
 module _ (which : ListOf) (xs : List ℕ) (place : ℕ) where
-  items-needs : (n at : ℕ) {e : ℕ} → walk (λ s a. read (itemLayout which) s a) n xs at ≡ found e → needs (leftLines which n xs at place) + 2 * at ≤ 190 * n + 2 * e
+  item-then : (n at : ℕ) {r : Parsed} → read (itemLayout which) xs at ≡ found r → leftLines which (suc n) xs at place ≡ lines (itemLayout which) (r .parts) xs (place + at) ++ leftLines which n xs (r .stops) place
+  item-then n at q = ap (λ a. ofRead a (λ r. lines (itemLayout which) (r .parts) xs (place + at) ++ leftLines which n xs (r .stops) place)) q
+
+  items-needs : (n at : ℕ) {e : ℕ} → walk (λ s a. read (itemLayout which) s a) n xs at ≡ found e → needs (leftLines which n xs at place) + 2 * at ≤ 94 * n + 2 * e
   items-needs zero at p = omega (arith, found-same p)
   items-needs (suc n) at p =
       let (r, q, s) = next-found (read (itemLayout which) xs at) _ p in
       let ls = lines (itemLayout which) (r .parts) xs (place + at) in
       let ms = leftLines which n xs (r .stops) place in
-      let all : leftLines which (suc n) xs at place ≡ ls ++ ms = ap (λ a. ofRead a (λ r. lines (itemLayout which) (r .parts) xs (place + at) ++ leftLines which n xs (r .stops) place)) q in
-      omega (arith, ap needs all, needs-append ls ms, items-needs n (r .stops) s, item-needs which xs at (place + at) q)
+      omega (arith, ap needs (item-then n at q), needs-append ls ms, items-needs n (r .stops) s, item-needs which xs at (place + at) q)
 
-  list-needs : {ys : List ℕ} → whole (mostItems which) (itemLayout which) xs ≡ found ys → needs (itemsLines which xs place) ≤ 3110 + 2 * length xs
+  items-short : (n at : ℕ) {e : ℕ} → walk (λ s a. read (itemLayout which) s a) n xs at ≡ found e → place + length xs < 10000 → Short (leftLines which n xs at place)
+  items-short zero at p near = tt
+  items-short (suc n) at p near =
+      let (r, q, s) = next-found (read (itemLayout which) xs at) _ p in
+      rw (item-then n at q) (short-append (lines (itemLayout which) (r .parts) xs (place + at)) (leftLines which n xs (r .stops) place) (item-short which xs at place q near) (items-short n (r .stops) s near))
+
+  list-needs : {ys : List ℕ} → whole (mostItems which) (itemLayout which) xs ≡ found ys → needs (itemsLines which xs place) ≤ 1542 + 2 * length xs
   list-needs w = omega (arith, items-needs (be (take 4 xs)) 4 (items-legal which xs w refl), count-few which xs w, few-items which)
 
-step-needs : (s : Step) (src : List ℕ) (at : ℕ) {xs : List ℕ} → spellStep s src at ≡ found xs → needs (stepLines s src at) ≤ 3110 + 2 * length xs
+  list-short : {ys : List ℕ} → whole (mostItems which) (itemLayout which) xs ≡ found ys → place + length xs < 10000 → Short (itemsLines which xs place)
+  list-short w near = (omega arith, omega arith, items-short (be (take 4 xs)) 4 (items-legal which xs w refl) near)
+
+-- 1 for a list, and 0 for any other step
+abbrev isList : Step → ℕ
+isList (Number w r n) = 0
+isList (Plain n s) = 0
+isList (Buffer m s) = 0
+isList (Items i s) = 1
+isList (Due v c b) = 0
+
+list-legal : (i : ListOf) (s : Span) (src : List ℕ) (at : ℕ) {xs : List ℕ} → spellStep (Items i s) src at ≡ found xs → (ys : List ℕ) × (whole (mostItems i) (itemLayout i) (take (lenOf s) (drop (startOf s) src)) ≡ found ys)
 unfolding spellStep
-step-needs (Number w r n) src at p = omega (arith, number-need r n)
-step-needs (Plain n s) src at p = omega (arith, ap length (step-is (Plain n s) src at p .0))
-step-needs (Buffer m s) src at p =
-    omega (arith, ap length (step-is (Buffer m s) src at p .0), length-append (digits 2 (lenOf s)) (take (lenOf s) (drop (startOf s) src)))
-step-needs (Items i s) src at p =
+list-legal i s src at {xs} p =
     let (ys, e, q) = next-found (cut src (startOf s) (lenOf s) at) _ p in
-    let legal = moved-found at (whole (mostItems i) (itemLayout i) ys) q in
     let same = cut-is src (startOf s) (lenOf s) at e .0 in
-    omega (arith, list-needs i (take (lenOf s) (drop (startOf s) src)) at (rw same at legal), ap length (step-is (Items i s) src at p .0))
-step-needs (Due v c b) src at p = omega arith
+    (xs, rw same at (moved-found at (whole (mostItems i) (itemLayout i) ys) q))
+
+step-need : (s : Step) (src : List ℕ) (at : ℕ) {xs : List ℕ} → spellStep s src at ≡ found xs → at + length xs < 10000 → length (linesText (stepLines s src at)) ≤ 56 + (1486 * isList s + 2 * length xs)
+step-need (Number w r n) src at p near =
+    let size = ap length (step-is (Number w r n) src at p .0) ∙ length-digits (widthOf w) n in
+    omega (arith, number-need r n, text-need (stepLines (Number w r n) src at) (omega arith, omega arith, tt))
+step-need (Plain n s) src at p near =
+    let size = ap length (step-is (Plain n s) src at p .0) in
+    let whole = cut-length src (startOf s) (lenOf s) 0 (step-is (Plain n s) src at p .1) in
+    omega (arith, text-need (stepLines (Plain n s) src at) (omega arith, omega arith, tt))
+step-need (Buffer m s) src at p near =
+    let size = ap length (step-is (Buffer m s) src at p .0) ∙ length-append (digits 2 (lenOf s)) (take (lenOf s) (drop (startOf s) src)) in
+    let whole = cut-length src (startOf s) (lenOf s) 0 (step-is (Buffer m s) src at p .1) in
+    let two = length-digits 2 (lenOf s) in
+    omega (arith, text-need (stepLines (Buffer m s) src at) (omega arith, omega arith, (omega arith, omega arith, tt)))
+step-need (Items i s) src at p near =
+    let size = ap length (step-is (Items i s) src at p .0) in
+    let (ys, legal) = list-legal i s src at p in
+    let xs = take (lenOf s) (drop (startOf s) src) in
+    omega (arith, list-needs i xs at legal, text-need (itemsLines i xs at) (list-short i xs at legal (omega arith)))
+step-need (Due v c b) src at p near = omega arith
 
 -- ---- one legal step
 
@@ -225,27 +283,37 @@ run-lines (s ∷ ss) src at v old bs p near short =
     rw (← lines-cons s ss src at, ← run-cons s ss src at v old, ← stop) all
 
 -- and how long their lines are
-lines-few : (ss : List Step) (src : List ℕ) (at : ℕ) {bs : List ℕ} → spell ss src at ≡ found bs → length (linesText (linesOf ss src at)) ≤ 3110 * length ss + 2 * length bs
+lists-cons : (s : Step) (ss : List Step) → length (listsOf (s ∷ ss)) ≡ isList s + length (listsOf ss)
+lists-cons (Number w r n) ss = omega arith
+lists-cons (Plain n s) ss = omega arith
+lists-cons (Buffer m s) ss = omega arith
+lists-cons (Items i s) ss = omega arith
+lists-cons (Due v c b) ss = omega arith
+
+lines-few : (ss : List Step) (src : List ℕ) (at : ℕ) {bs : List ℕ} → spell ss src at ≡ found bs → at + length bs < 10000 → length (linesText (linesOf ss src at)) ≤ 56 * length ss + (1486 * length (listsOf ss) + 2 * length bs)
 unfolding linesOf
-lines-few [] src at p = omega arith
-lines-few (s ∷ ss) src at p =
+lines-few [] src at p near = omega arith
+lines-few (s ∷ ss) src at p near =
     let n = next-step s ss src at p in
     let ls = stepLines s src at in
     let ms = linesOf ss src (at + length (laid s src)) in
-    omega (arith, ap length (n .split), length-append (laid s src) (n .left), ap length (text-append ls ms), length-append (linesText ls) (linesText ms), text-need ls, step-needs s src at (step-bytes s ss src at p), lines-few ss src (at + length (laid s src)) (n .spelled))
+    let size = ap length (n .split) ∙ length-append (laid s src) (n .left) in
+    let text = ap length (text-append ls ms) ∙ length-append (linesText ls) (linesText ms) in
+    omega (arith, lists-cons s ss, step-need s src at (step-bytes s ss src at p) (omega arith), lines-few ss src (at + length (laid s src)) (n .spelled) (omega arith))
 
 -- ---- a record
 
--- of 24 steps and 4096 bytes: how long its lines are is counted, and where they fit they are put
+-- of at most 24 steps, one list and 4,096 bytes: how long its lines are is counted, and where they fit they are put
 pub walk-lists : (k : ℕ) (l : Layout) (ps ls : List Part) (src old last : List ℕ) (u w : Walk) (v : ℕ) (bs : List ℕ) → u ≡ lining 0 v → Walks k l ps ls src (here u old) (here w last) → lay l ps src 0 ≡ found bs
-    → leb k 24 ≡ true → length bs ≤ 4096 → v ≤ 0x10000
-    → (w .value ≡ v + length (linesText (lines l ps src 0))) × (v + length (linesText (lines l ps src 0)) ≤ length old → Puts v (linesText (lines l ps src 0)) old (v + length (linesText (lines l ps src 0))) last) × (length (linesText (lines l ps src 0)) ≤ 82832)
-walk-lists k l ps ls src old last u w v bs begin p laid few small near =
+    → leb k 24 ≡ true → length ls ≤ 1 → length bs ≤ 4096 → v ≤ 0x10000
+    → (w .value ≡ v + length (linesText (lines l ps src 0))) × (v + length (linesText (lines l ps src 0)) ≤ length old → Puts v (linesText (lines l ps src 0)) old (v + length (linesText (lines l ps src 0))) last) × (length (linesText (lines l ps src 0)) ≤ 2830 + 2 * length bs)
+walk-lists k l ps ls src old last u w v bs begin p laid few one small near =
     let most = leb-true k 24 few in
     let there = p .goes .same ∙ ap (λ x. run (p .steps) src (here x old)) begin in
     let spelled = sym (p .plans .lays src 0) ∙ laid in
-    let short = lines-few (p .steps) src 0 spelled in
+    let short = lines-few (p .steps) src 0 spelled (omega arith) in
     let shown = ap (λ ls. length (linesText ls)) (p .plans .shows src 0 laid) in
+    let lists = ap length (p .plans .lists) in
     let q = run-lines (p .steps) src 0 v old bs spelled (omega arith) (omega (arith, p .few)) in
     let r : LinesTo (0 + length bs) v (linesText (lines l ps src 0)) old (here w last) = rw (← p .plans .shows src 0 laid, there) q in
     (ap (λ x. x .value) (r .counted), r .puts, omega (arith, p .few))

@@ -20,7 +20,7 @@ pub const LIST: usize = 4;
 
 pub const FOUND: usize = 5;
 
-// Behind so many bytes nothing is judged or listed; no record is so long.
+// Behind so many bytes, of a record or of a text, nothing is judged or listed; none is so long.
 pub const FAR: usize = 0x1000000;
 
 pub struct Walk {

@@ -50,7 +50,17 @@ pub decimal-length : (n : ℕ) → length (decimal n) ≤ 20
 unfolding decimal
 decimal-length n = decimal-most 20 n
 
--- and a number of 64 bits has no more
+-- a number below 10,000 at most 4
+below : (most k n : ℕ) → n < 10 ^ suc k → length (decimalIn most n) ≤ suc k
+below zero k n h = omega arith
+below (suc m) zero n h = rw (lt-ltb n 10 h) (omega arith)
+below (suc m) (suc k) n h = one-more (ltb n 10) (decimalIn m (n / 10)) (glyph (n % 10)) (suc k) (below m k (n / 10) (omega (arith, pow-suc 10 (suc k))))
+
+pub decimal-few : (n : ℕ) → n < 10000 → length (decimal n) ≤ 4
+unfolding decimal
+decimal-few n h = below 20 3 n h
+
+-- and a number of 64 bits has no more than 20
 pub few-digits : (k n : ℕ) → n < 18446744073709551616 → (1 < k → 10 ^ (k - 1) ≤ n) → k ≤ 20
 few-digits k n small above = by (leb k 20) refl
   where

@@ -7,7 +7,7 @@ use mathlib.Core.List.{List, [], _∷_, _++_, append-assoc}
 use lib.ListN.{length, take, drop, set, length-append, length-drop, take-append-drop}
 use lib.Seq.{take-at, drop-at, drop-drop, length-take-le, sets, sets-eq}
 use lib.Dec.{leb}
-use borrow.Author.Tests.{le-leb, lt-leb, leb-true}
+use borrow.Author.Tests.{le-leb, leb-true}
 use Rattle.wire.specs.Records.{found}
 use Rattle.wire.specs.Filling.{filled}
 use Rattle.text.specs.Puts.{Puts, Fits}
@@ -86,7 +86,11 @@ fits-at-once {b} {at} {bs} {old} k few test good p =
     let room = room-there b at k (length old) test good in
     record { size = omega (arith, p .behind); holds = rw (le-leb (at + length bs) (length old) (omega arith)) (p .holds) }
 
--- where there is none
+-- where bytes fit they are put
+pub fits-puts : {at : ℕ} {bs old : List ℕ} {r : ℕ} {last : List ℕ} → at + length bs ≤ length old → Fits at bs old r last → Puts at bs old (at + length bs) last
+fits-puts {at} {bs} {old} room p = record { behind = refl; holds = p .holds ∙ rw (le-leb (at + length bs) (length old) room) }
+
+-- where there is no room
 pub fits-not : {b : Bool} (at : ℕ) (bs old : List ℕ) {n : ℕ} → n ≡ length bs → b ≡ leb (at + n) (length old) → b ≡ false → Fits at bs old n old
 fits-not at bs old size test bad =
     let none : leb (at + length bs) (length old) ≡ false = ap (λ n. leb (at + n) (length old)) (sym size) ∙ sym test ∙ bad in
@@ -100,4 +104,4 @@ pub fits-same : {at : ℕ} {xs ys old : List ℕ} {r : ℕ} {last : List ℕ} �
 fits-same {at} {old = old} {r = r} {last = last} e p = subst (λ bs. Fits at bs old r last) e p
 
 pub made-inside : {bs old : List ℕ} {k : ℕ} {row : List ℕ} (m : ℕ) → Puts 0 bs old k row → length bs ≤ m → m ≤ length old → k ≤ length row
-made-inside m p few room = let fits : _ = p .behind in omega (arith, puts-length (omega arith) p)
+made-inside m p few room = omega (arith, p .behind, puts-length (omega (arith, p .behind)) p)

@@ -61,15 +61,22 @@ puts-same {at} {old = old} {r = r} {last = last} e p = subst (λ bs. Puts at bs 
 
 -- ---- how long lines are
 
-pub number-line-length : (place size : ℕ) (w : Word) (n : ℕ) → length (lineText (line place size (sayWord w n))) ≤ 70
-number-line-length place size w n =
+pub number-line-most : (place size : ℕ) (w : Word) (n : ℕ) → length (lineText (line place size (sayWord w n))) ≤ length (decimal place) + (length (decimal size) + 30)
+number-line-most place size w n =
     let texts = decimal n ++ ascii "\n" in
     let whole = ap length (sym (number-line place size w n)) in
-    omega (arith, length-append (decimal place ++ (ascii " " ++ decimal size)) (wordText w ++ texts), head-length place size, length-append (wordText w) texts, word-length w, length-append (decimal n) (ascii "\n"), decimal-length n)
+    omega (arith, length-append (decimal place ++ (ascii " " ++ decimal size)) (wordText w ++ texts), length-append (decimal place) (ascii " " ++ decimal size), length-append (wordText w) texts, word-length w, length-append (decimal n) (ascii "\n"), decimal-length n)
+
+pub number-line-length : (place size : ℕ) (w : Word) (n : ℕ) → length (lineText (line place size (sayWord w n))) ≤ 70
+number-line-length place size w n = omega (arith, number-line-most place size w n, decimal-length place, decimal-length size)
+
+pub bytes-line-most : (place size : ℕ) (xs : List ℕ) → length (lineText (line place size (theBytes xs))) ≤ length (decimal place) + (length (decimal size) + (10 + 2 * length xs))
+bytes-line-most place size xs =
+    let head = decimal place ++ (ascii " " ++ decimal size) in
+    omega (arith, ap length (sym (bytes-line place size xs)), length-append (bytesHead place size) (hex xs ++ ascii "\n"), length-append head (ascii " bytes "), length-append (decimal place) (ascii " " ++ decimal size), length-append (hex xs) (ascii "\n"), hex-length xs)
 
 pub bytes-line-length : (place size : ℕ) (xs : List ℕ) → length (lineText (line place size (theBytes xs))) ≤ 50 + 2 * length xs
-bytes-line-length place size xs =
-    omega (arith, ap length (sym (bytes-line place size xs)), length-append (bytesHead place size) (hex xs ++ ascii "\n"), bytes-head-length place size, length-append (hex xs) (ascii "\n"), hex-length xs)
+bytes-line-length place size xs = omega (arith, bytes-line-most place size xs, decimal-length place, decimal-length size)
 
 -- ---- the line of a number in four parts, where there is room for the longest
 
