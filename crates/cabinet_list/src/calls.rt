@@ -2,7 +2,7 @@
 ghost use Prim.Native.Nat.{_≤_};
 ghost use mathlib.Core.Path.{_≡_};
 ghost use lib.ListN.{length};
-ghost use Rattle.cabinet_list.specs.Calls.{Moves, Takes};
+ghost use Rattle.cabinet_list.specs.Calls.{MovedWithin, TakenWithin};
 
 // What a call came to: it moved so many bytes, it moved none, it was broken off by a signal, or it failed, and errno says why.
 enum Moved {
@@ -19,7 +19,7 @@ pub enum Taken {
 }
 
 fn came(got: isize, buf: &[u8]) -> Moved
-    ensures { λ r. ⌜ Moves r (length (now (buf .entry))) ⌝ }
+    ensures { λ r. ⌜ MovedWithin r (length (now (buf .entry))) ⌝ }
 {
     if got < 0 {
         if os::errno() == libc::EINTR {
@@ -34,7 +34,7 @@ fn came(got: isize, buf: &[u8]) -> Moved
 }
 
 fn read_some(buf: &mut [u8]) -> Moved
-    ensures { λ r. ⌜ Moves r (length (now (buf .exit))) ⌝ }
+    ensures { λ r. ⌜ MovedWithin r (length (now (buf .exit))) ⌝ }
 {
     if buf.len() == 0 {
         return Moved::None;
@@ -44,7 +44,7 @@ fn read_some(buf: &mut [u8]) -> Moved
 }
 
 fn write_some(fd: i32, buf: &[u8]) -> Moved
-    ensures { λ r. ⌜ Moves r (length (now (buf .entry))) ⌝ }
+    ensures { λ r. ⌜ MovedWithin r (length (now (buf .entry))) ⌝ }
 {
     if buf.len() == 0 {
         return Moved::None;
@@ -55,7 +55,7 @@ fn write_some(fd: i32, buf: &[u8]) -> Moved
 // Fills buf from standard input, as far as that goes. A proved loop has to end, and nothing says that signals do: it counts down from a
 // number that no run uses up.
 pub fn take(buf: &mut [u8]) -> Taken
-    ensures { λ r. ⌜ Takes r (length (now (buf .exit))) ⌝ }
+    ensures { λ r. ⌜ TakenWithin r (length (now (buf .exit))) ⌝ }
 {
     let mut done: usize = 0;
     let mut calls = u64::MAX;

@@ -55,12 +55,13 @@ fn say_sizes(name: &[u8], bytes: &[u8]) -> u8 {
     say(b"", b"\n")
 }
 
-// Writes a listing. Closing tells what a system that writes later has not written.
+// Closing tells what a system that writes later has not written.
+fn is_written(text: &[u8]) -> bool {
+    give(libc::STDOUT_FILENO, text) && libc::close(libc::STDOUT_FILENO) == 0
+}
+
 fn write_listing(text: &[u8], read: bool) -> u8 {
-    if !give(libc::STDOUT_FILENO, text) {
-        return failed(b"cabinet-list: standard output");
-    }
-    if libc::close(libc::STDOUT_FILENO) < 0 {
+    if !is_written(text) {
         return failed(b"cabinet-list: standard output");
     }
     if read { READ } else { REFUSED }
