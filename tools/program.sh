@@ -9,8 +9,8 @@ program=$root/target/bin/$name
 built=$root/target/stamp/$name
 log=$root/target/log/$me.log
 lock=$root/target/log/build.lock
-# Seconds a crate: a first run of 19 crates took 430 on two Arm cores.
-pace=23
+# Seconds a crate: a first run of 19 crates took 481 on two Arm cores.
+pace=25
 # The folder of the emulator, where one is needed.
 tools=
 
@@ -32,7 +32,7 @@ is_old() { [ -n "$(find "$root/crates" "$root/crates.txt" -newer "$built" -print
 
 is_good() { is_built && ! is_old; }
 
-can_write() { mkdir -p "$root/target/log" && true >>"$lock"; } 2>/dev/null
+can_write() { mkdir -p "$root/target/log" && true >>"$lock" && true >>"$log"; } 2>/dev/null
 
 # The crates that this program rests on, and itself, are as many as this prints. The kit's own have no line in crates.txt.
 count_crates() {
@@ -67,7 +67,7 @@ tell() {
 
 # rt and all that it started are one process group: setsid makes it so.
 stop() { # SIGNAL
-    trap - "$1"
+    trap - "$1" EXIT
     kill -s TERM -- "-$job" 2>/dev/null || kill "$job" 2>/dev/null || :
     say 'stopped; what was proved is kept'
     kill -s "$1" $$
@@ -112,7 +112,8 @@ build() {
     start_rt
     wait_for_rt || not_built
     is_built || not_built
-    touch -r "$lock" "$built" # what was changed since rt began is newer than the build
+    # What was changed since rt began is newer than the build.
+    touch -r "$lock" "$built" || fail "the time of the build cannot be kept"
 }
 
 # Two builds in one checkout would break each other. A lock folder would outlive a run that is killed. This lock is held by an open

@@ -10,7 +10,7 @@ crates=$(sed -n 's/^cabinet_list: *//p' "$root/crates.txt" | tr ' ' '\n' | while
 crates=$((crates + 1))
 
 # What a first run says.
-said='cabinet-list: proving and building the program, about [1-9]* minutes'
+said='cabinet-list: proving and building the program, about [1-9] minutes'
 number=0
 while [ "$number" -lt "$crates" ]; do
     number=$((number + 1))
@@ -56,6 +56,26 @@ check 'the program is there' '[ -x "$built" ]'
 try 'and it is not taken for good' 0 aes "$said" 'fake good "$first/cabinet-list" "$deposits/aes"'
 
 gone() { ! kill -0 "$(cat "$FAKE_DIR/child")" 2>/dev/null; }
+
+unbuild
+rm -f "$FAKE_DIR/go" "$work/one.err"
+start one steps "$first/cabinet-list" "$deposits/aes"
+wait_for 'grep -q "crate 2 of" "$work/one.err"' || :
+touch "$first/crates/faults/src/lib.rt" "$FAKE_DIR/go"
+try_ended 'a crate is touched while rt goes on' 0 aes "$said" "$started" one
+try 'and is not taken for built' 0 aes 'cabinet-list: the sources have changed*' 'fake good "$first/cabinet-list" "$deposits/aes"'
+touch "$first/crates.txt"
+try 'crates.txt was touched' 0 aes 'cabinet-list: the sources have changed*' 'fake good "$first/cabinet-list" "$deposits/aes"'
+
+unbuild
+try 'target is removed while rt goes on' 2 nothing '*cabinet-list: the time of the build cannot be kept' 'fake swept "$first/cabinet-list" "$deposits/aes"'
+
+# What the script does not foresee is trouble, and no refusal.
+unbuild
+mkdir "$work/broken"
+printf '#!/bin/sh\nexit 1\n' >"$work/broken/awk"
+chmod +x "$work/broken/awk"
+try 'a tool of the script fails' 2 nothing '*' 'bare=$work/broken:$bare && fake good "$first/cabinet-list" "$deposits/aes"'
 
 unbuild
 rm -f "$FAKE_DIR/child"

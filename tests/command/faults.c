@@ -3,6 +3,7 @@
 //   MOST   a call takes no more than so many bytes
 //   EINTR  every so-manieth call is interrupted
 //   STOP   after so many bytes in all, calls fail with the errno ERROR
+// and with CLOSE_ERROR closing descriptor 1 fails with that errno.
 // No headers: the kit's compiler, which makes code for x86-64 on every machine, comes with none.
 typedef unsigned long size;
 
@@ -13,7 +14,7 @@ int strcmp(const char *a, const char *b);
 int *__errno_location(void);
 long syscall(long number, ...);
 
-enum { READ = 0, WRITE = 1, EINTR = 4 };
+enum { READ = 0, WRITE = 1, CLOSE = 3, EINTR = 4 };
 
 struct way {
     const char *most, *eintr, *stop, *error;
@@ -68,4 +69,10 @@ long write(int fd, const void *bytes, size n) {
     if (fd == 1 && is_program())
         return call(&writing, WRITE, fd, bytes, n);
     return syscall(WRITE, fd, bytes, n);
+}
+
+int close(int fd) {
+    int error = fd == 1 && is_program() ? number("CLOSE_ERROR") : 0;
+    int got = (int)syscall(CLOSE, fd);
+    return error ? fail(error) : got;
 }

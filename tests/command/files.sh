@@ -58,3 +58,8 @@ try 'an empty name among others' 2 two "cabinet-list: '': [Nn]o such file*" 'cd 
 long=$(printf '%0200d/' 0 0 0 0 0 0 0 0 0 0 0 0 0 0 0 0 0 0)aes
 try 'a long name' 0 aes '' 'cd "$names" && mkdir -p "${long%/aes}" && cp "$deposits/aes" "$long" && "$list" "$long"'
 try 'a long name of a folder' 2 nothing "cabinet-list: ${long%/aes}: Is a directory" 'cd "$names" && "$list" "${long%/aes}"'
+
+# Descriptors that the command has for itself would be its own output, or its own pipe.
+for own in /dev/stdout /dev/stderr /dev/fd/1 /dev/fd/2 /dev/fd/8 /dev/fd/9; do
+    try "$own as a file" 2 nothing "cabinet-list: $own: it cannot be read here" '"$list" "$own"'
+done

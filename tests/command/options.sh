@@ -34,7 +34,7 @@ check 'the help has each refusal of docs/FORMAT.md' '
         while read -r number name; do count=$((count + 1)) && grep -q "^ *$number [ *]* $name: " "$want/help" || { echo "no $number $name"; exit 1; }; done
         [ "$count" -eq 13 ]
     }'
-check 'the help has the usage and the statuses' 'grep -q "^usage: cabinet-list " "$want/help" && grep -q "^Exit status: 0 read, 1 refused, 2 trouble" "$want/help"'
+check 'the help has the usage, the lines and the statuses' 'grep -q "^usage: cabinet-list " "$want/help" && grep -q "^  kind KIND read SIZE tail LEFT " "$want/help" && grep -q "^  PLACE SIZE code NUMBER " "$want/help" && grep -q "^  PLACE SIZE number NUMBER " "$want/help" && grep -q "^  PLACE SIZE bytes HEX " "$want/help" && grep -q "^  kind KIND refused NUMBER at PLACE value VALUE" "$want/help" && grep -q "^Exit status: 0 read, 1 refused, 2 trouble" "$want/help"'
 check 'no line of the help is longer than 80' '! grep -n ".\{81\}" "$want/help"'
 
 try '--kind 11' 0 srk '' '"$list" --kind 11 <"$records/public"'

@@ -21,7 +21,6 @@ try 'output cannot be written' 2 nothing 'cabinet-list: standard output: Bad fil
 try 'output to a pipe that nobody reads' 2 nothing 'cabinet-list: standard output: Broken pipe' \
     '{ status=0; sleep 0.3; "$list" "$deposits/srk" || status=$?; echo "$status" >"$work/status"; } | true; exit "$(cat "$work/status")"'
 
-
 # Two listings of 359 bytes with their lines do not fit in the 512 that the file may have. The third line is not written either.
 wanted limited srk srk srk srk
 head -c 512 "$want/limited" >"$want/limited-begun"
