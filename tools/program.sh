@@ -23,7 +23,7 @@ fail() {
 }
 
 needs_kit() {
-    fail "the Rattle kit is needed and there is no rt: rattle-kit-5b, logic 064da1ca440f63e7. README.md says where it comes from"
+    fail "the Rattle kit is needed and there is no rt: rattle-kit-5b, logic 064da1ca440f63e7. README.md says what is known of where it comes from"
 }
 
 is_built() { [ -x "$program" ] && [ -f "$built" ]; }
