@@ -1,7 +1,7 @@
 """The text of an answer, as docs/FORMAT.md, section 11, has it."""
 
 SHORT, UNKNOWN_CODE, NO_ARM, TOO_LONG, TOO_MANY_ITEMS, BAD_VALUE = 1, 2, 3, 4, 5, 6
-BAD_KIND, OVERSIZE = 12, 13
+MISMATCH, BAD_SPAN, NO_ROOM, NO_FIELD, TRAILING, BAD_KIND, OVERSIZE = 7, 8, 9, 10, 11, 12, 13
 
 
 def refused(kind, number, place, value):

@@ -12,6 +12,7 @@ from pathlib import Path
 sys.dont_write_bytecode = True
 
 import answers
+import cases
 import damage
 import records
 import sweeps
@@ -20,7 +21,7 @@ import tables
 HERE = Path(__file__).resolve().parent
 CRATES = HERE.parent.parent / 'crates'
 README = HERE / 'README.md'
-COUNTS_BEGIN, COUNTS_END = '```counts\n', '```\n'
+DEPOSIT_COUNTS, CALL_COUNTS, COUNTS_END = '```counts\n', '```calls\n', '```\n'
 BAD_KINDS = (0, 15, 255)
 FIRST_EXAMPLE = bytes.fromhex('02 0006 0080 0043')  # of docs/FORMAT.md, section 11
 
@@ -131,6 +132,17 @@ def fill(samples):
     return shelf, {'real records': len(real), 'samples': len(samples), 'layouts': len(layouts)}
 
 
+def fill_calls(samples):
+    """The shelf of all cases for `calls`."""
+    real = records.load_real(HERE / 'real.jsonl')
+    listed = [record for record in (records.record_of_sample(*s) for s in samples) if record]
+    made = list(cases.all_cases(real, listed, one_of_each_layout(real)))
+    cases.require_complete([call for _, call in made])
+    shelf = Shelf()
+    shelf.put_all((sort, call.case, call.answer) for sort, call in made)
+    return shelf
+
+
 def algorithms_text():
     return ''.join(f'{code}\n' for code in tables.ALGORITHMS) + f'{len(tables.ALGORITHMS)} listed\n'
 
@@ -147,9 +159,14 @@ def count_lines(shelf, sources):
     return lines
 
 
-def with_counts(page, counts):
+def call_count_lines(shelf):
+    lines = [f'{count:6} {sort}' for sort, count in shelf.counts.items()]
+    return lines + ['', f'{len(shelf.answers):6} cases']
+
+
+def with_counts(page, begin, counts):
     """The page with these counts in the place that it has for them."""
-    front, begin, rest = page.partition(COUNTS_BEGIN)
+    front, begin, rest = page.partition(begin)
     _, end, back = rest.partition(COUNTS_END)
     if not end:
         raise SystemExit(f'{README} has no place for the counts')
@@ -160,15 +177,20 @@ def made_files():
     """The files by their paths, and the counts."""
     samples = records.load_samples(HERE / 'samples.txt')
     shelf, sources = fill(samples)
+    calls = fill_calls(samples)
     counts = '\n'.join(count_lines(shelf, sources)) + '\n'
+    call_counts = '\n'.join(call_count_lines(calls)) + '\n'
+    page = with_counts(README.read_text(encoding='utf-8'), DEPOSIT_COUNTS, counts)
     return {
         CRATES / 'cabinet_list/stdin': FIRST_EXAMPLE,
         CRATES / 'cabinet_list/stdout': dict(samples)[FIRST_EXAMPLE].encode(),
         CRATES / 'deposits/stdin': b''.join(framed(d) for d in shelf.answers),
         CRATES / 'deposits/stdout': ''.join(shelf.answers.values()).encode(),
         CRATES / 'algorithms/stdout': algorithms_text().encode(),
-        README: with_counts(README.read_text(encoding='utf-8'), counts).encode(),
-    }, counts
+        CRATES / 'calls/stdin': b''.join(framed(c) for c in calls.answers),
+        CRATES / 'calls/stdout': ''.join(calls.answers.values()).encode(),
+        README: with_counts(page, CALL_COUNTS, call_counts).encode(),
+    }, counts + '\n' + call_counts
 
 
 def main(words):

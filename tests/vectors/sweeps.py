@@ -98,13 +98,21 @@ PLAIN_CODES = [
 ]
 
 
+def arms_chosen(place, number_tried):
+    return [tables.ARMS[union].get(number_tried) for union in place.unions]
+
+
+def record_with(place, number_tried):
+    """The record with that code in the place, and with the arms that it chooses, if it has any."""
+    arms = [part for arm in arms_chosen(place, number_tried) if arm for part in arm]
+    return built(place.kind, (*place.ahead, code(number_tried), *place.between, *arms, *place.behind))
+
+
 def tried(place, number_tried):
     """One code in one place: refused; or read, and refused when it is cut right where the arm is due."""
-    chosen = [tables.ARMS[union].get(number_tried) for union in place.unions]
-    arms = [part for arm in chosen if arm for part in arm]
-    front = (*place.ahead, code(number_tried), *place.between)
-    due = len(built(place.kind, front).data)
-    record = built(place.kind, (*front, *arms, *place.behind))
+    chosen = arms_chosen(place, number_tried)
+    due = len(built(place.kind, (*place.ahead, code(number_tried), *place.between)).data)
+    record = record_with(place, number_tried)
     if number_tried not in place.listed:
         at = len(built(place.kind, place.ahead).data)
         yield damage.refused(REFUSED, place.kind, record.data, (answers.UNKNOWN_CODE, at, number_tried))
@@ -120,3 +128,11 @@ def sweeps():
     for place in SELECTORS + PLAIN_CODES:
         for number_tried in place.tried:
             yield from tried(place, number_tried)
+
+
+def every_arm():
+    """A short record for each selector of each place."""
+    for place in SELECTORS:
+        for number_tried in place.listed:
+            if None not in arms_chosen(place, number_tried):
+                yield record_with(place, number_tried)

@@ -1,4 +1,4 @@
-"""The lists, arms and limits of docs/FORMAT.md (sections 3 to 7), written out by hand.
+"""The lists, arms, limits and forms of docs/FORMAT.md (sections 3 to 7), written out by hand.
 
 They say which codes a copy may be damaged with, and what a selector or a length is then refused for.
 No bytes are parsed with them: where a record's fields stand is known from its decoded fields alone.
@@ -41,6 +41,8 @@ ECC_PARAMETER, SYMMETRIC_KEY, NAME, DATA, NV_CONTENTS = 66, 32, 66, 66, 2048
 
 # The parts of an arm, in wire order. A buffer is written with its limit; a list has its own rules.
 CODE = ('code', 2)
+CURVE = ('curve', 2)
+ATTESTATION_TYPE = ('type', 2)
 YES_NO = ('number', 1)
 LIST = ('list', 0)
 NOTHING = ()
@@ -162,3 +164,65 @@ def limits(kind, selector):
         return []
     union = 'unique' if kind == 11 else UNION_OF_KIND[kind]
     return LIMITS_AHEAD.get(kind, []) + [limit for what, limit in ARMS[union][selector] if what == 'buffer']
+
+
+# ---- The record as a writer sees it
+
+# The list that a code is on.
+LISTED = {'code': ALGORITHMS, 'curve': CURVES, 'type': ATTESTATION_TYPES}
+
+# The selectors that share an arm (section 6). Every other selector has an arm of its own, even where its
+# fields are those of another. A digest's arm is told by its length.
+SHARED_ARMS = {
+    'digest': [(SHA256, SM3_256, SHA3_256, SHAKE256_256), (SHA384, SHA3_384), (SHA512, SHA3_512, SHAKE256_512)],
+    'signing': [(RSASSA, RSAPSS, ECDSA, ECDAA, SM2, ECSCHNORR)],
+    'asymmetric': [(RSASSA, RSAPSS, ECDSA, ECDAA, SM2, ECSCHNORR, OAEP, ECDH, ECMQV), (RSAES, NULL)],
+}
+
+
+def inside(kind):
+    """A record of that kind as a part of an arm."""
+    return ('kind', kind)
+
+
+# The arms with all that is in them, and the cipher's two unions as two.
+WHOLE_ARMS = {
+    **ARMS,
+    'key bits': {selector: arm[:1] for selector, arm in ARMS['cipher'].items()},
+    'mode': {selector: arm[1:] for selector, arm in ARMS['cipher'].items()},
+    'parameters': {
+        KEYEDHASH: (inside(4),),
+        SYMCIPHER: (inside(2),),
+        RSA: (inside(2), inside(6), number(2), number(4)),
+        ECC: (inside(2), inside(7), CURVE, inside(3)),
+        NULL: NOTHING,
+    },
+    'signature': {**ARMS['signature'], HMAC: (inside(1),)},
+}
+
+
+def arm_of(union):
+    return ('arm', union)
+
+
+# The parts of each kind, in wire order (section 7). The first code of a form is the selector of its arms.
+FORMS = {
+    2: (CODE, arm_of('key bits'), arm_of('mode')),
+    **{kind: (CODE, arm_of(UNION_OF_KIND[kind])) for kind in (1, 3, 4, 5, 6, 7, 8, 9, 10)},
+    11: (CODE, CODE, number(4), buffer(DIGEST), arm_of('parameters'), arm_of('unique')),
+    12: (CODE, buffer(AUTH), buffer(DIGEST), arm_of('sensitive')),
+    13: (('magic', 4), ATTESTATION_TYPE, buffer(NAME), buffer(DATA), *CLOCK_INFO, number(8), arm_of('attestation')),
+    14: (LIST,),
+}
+
+
+def arm_chosen(union, selector):
+    """The arm that a selector chooses, by the first selector that it belongs to; None where it has no arm."""
+    if selector not in WHOLE_ARMS[union]:
+        return None
+    shared = [selectors for selectors in SHARED_ARMS.get(union, []) if selector in selectors]
+    return shared[0][0] if shared else selector
+
+
+def arms_of(union):
+    return sorted({arm_chosen(union, selector) for selector in WHOLE_ARMS[union]})
