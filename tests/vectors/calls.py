@@ -42,6 +42,11 @@ def record_kind(kind):
     return INNER[kind].kind if kind in INNER else {MAGIC: 13, AUTH: 12}.get(kind, kind)
 
 
+def selectors_ahead(kind):
+    """How many of the record's selectors come ahead of the one that is replaced."""
+    return INNER[kind].ahead if kind in INNER else 0
+
+
 class Placed(NamedTuple):
     """Records as a case lends them: where the first begins, what follows it, and a second for two kinds."""
     record: Record
@@ -115,7 +120,7 @@ def replaced(asked, row):
         return held.with_part(row, 0, row[0]._replace(value=asked.selector)), None
     if asked.kind == AUTH:
         return held.with_part(row, 1, row[1]._replace(span=held.Span(0, asked.selector))), None
-    index = held.selectors(row)[INNER[asked.kind].ahead if asked.kind in INNER else 0]
+    index = held.selectors(row)[selectors_ahead(asked.kind)]
     return held.with_part(row, index, row[index]._replace(value=asked.selector)), index
 
 

@@ -231,6 +231,11 @@ def spans(row):
     return [part.span for part in row if isinstance(part, (Digest, Buffer, List))]
 
 
+def list_span(row):
+    """The span of the list; None if the row has none."""
+    return next((part.span for part in row if isinstance(part, List)), None)
+
+
 def field(row, source, index):
     held = spans(row)
     if index >= len(held):
@@ -241,11 +246,11 @@ def field(row, source, index):
 
 
 def item(row, source, index):
-    held = [part.span for part in row if isinstance(part, List)]
-    if not held:
+    span = list_span(row)
+    if span is None:
         return answers.NO_FIELD, 0, index
-    if held[0].bad(source):
-        return answers.BAD_SPAN, 0, held[0].length
+    if span.bad(source):
+        return answers.BAD_SPAN, 0, span.length
     if source.fault:
         return source.fault
     return source.items[index] if index < len(source.items) else (answers.NO_FIELD, 0, index)

@@ -1,16 +1,9 @@
-"""Sources that are not the records: too short for a span, with other bytes, with another list.
+"""Sources that are not the records: too short for a span, and with other bytes."""
 
-What a list in such a source is refused for follows from how it was made; no list is read here.
-"""
-
-import answers
-import calls
-import damage
 import held
 import tables
-from calls import Asked, Placed, call
-
-SMALLEST_ITEM, GREATEST_ITEM = 3, 3 + tables.GREATEST_PCR_SIZE
+from calls import TWO_RECORDS, Asked, Placed, call
+from choice import FIELD_KINDS, ahead, another_of_its_arm, by_arm, own_selector, unions_of
 
 
 # ---- Spans past the end
@@ -21,12 +14,12 @@ def cuts(placed):
     places = {0, len(placed.data) - 1}
     for span in held.spans(placed.row):
         end = span.start + span.length
-        places |= {span.start - 1, span.start, span.start + span.length // 2, end - 1, end}
+        places |= {span.start, span.start + span.length // 2, end - 1, end}
     return sorted(place for place in places if place >= 0)
 
 
-def cut_source(placed, size):
-    return placed.source._replace(data=placed.data[:size])
+def cut_source(source, size):
+    return source._replace(data=source.data[:size])
 
 
 def nearest_field(placed, size):
@@ -37,7 +30,7 @@ def nearest_field(placed, size):
 
 def cut_sources(kind, code, placed):
     for turn, size in enumerate(cuts(placed)):
-        source, near = cut_source(placed, size), nearest_field(placed, size)
+        source, near = cut_source(placed.source, size), nearest_field(placed, size)
         yield 'source cut', call(Asked(kind, code, index=near), placed, source)
         if near and turn % 2:
             yield 'source cut', call(Asked(kind, code, 9, near - 1), placed, source)
@@ -46,7 +39,7 @@ def cut_sources(kind, code, placed):
 def cut_and_other_selector(kind, codes, placed):
     """A span past the end and a selector that is not the record's: what comes first on the wire is refused."""
     for turn, code in enumerate(codes):
-        source = cut_source(placed, turn % 2 * (len(placed.data) - 1))
+        source = cut_source(placed.source, turn % 2 * (len(placed.data) - 1))
         yield 'source cut, selector replaced', call(Asked(kind, code, index=turn % 4), placed, source)
 
 
@@ -64,114 +57,27 @@ def other_bytes(kind, code, placed):
         yield 'source with other bytes', call(asked, placed, held.Source(source))
 
 
-# ---- Other lists, of the same length
+# ---- For which records
 
 
-def list_bytes(count, items):
-    return count.to_bytes(4, 'big') + b''.join(items)
+def with_sources(found):
+    """For each kind and arm with byte fields: its smallest record, and the smallest that has no empty field."""
+    for kind in FIELD_KINDS:
+        alike = by_arm(kind, found).values() if kind != 14 else [[r] for r in found if r.kind == 14]
+        for records in alike:
+            full = [r for r in records if all(span.length for span in held.spans(held.row_of(r)))]
+            for record in records[:1] + [r for r in full[:1] if r != records[0]]:
+                yield kind, record
 
 
-def item_places(items):
-    return [4 + sum(map(len, items[:i])) for i in range(len(items))]
-
-
-def put(data, place, piece):
-    return data[:place] + piece + data[place + len(piece):]
-
-
-def wrong_counts(items):
-    """The list with another count: its bytes, and what it is refused for."""
-    end = len(list_bytes(0, items))
-    for count in (tables.GREATEST_COUNT + 1, 0xFFFFFFFF):
-        yield list_bytes(count, items), (answers.TOO_MANY_ITEMS, 0, count)
-    if len(items) < tables.GREATEST_COUNT:
-        yield list_bytes(len(items) + 1, items), (answers.SHORT, end, 2)
-    for count, place in list(enumerate(item_places(items)))[:1] + list(enumerate(item_places(items)))[1:][-1:]:
-        yield list_bytes(count, items), (answers.TRAILING, place, end - place)
-
-
-def wrong_items(items):
-    """The list with an unlisted bank, and with a PCR size above 4: each item's."""
-    data = list_bytes(len(items), items)
-    for turn, place in enumerate(item_places(items)):
-        bank = tables.UNLISTED[(turn + len(data)) % len(tables.UNLISTED)]
-        yield put(data, place, bank.to_bytes(2, 'big')), (answers.UNKNOWN_CODE, place, bank)
-        for size in (tables.GREATEST_PCR_SIZE + 1, 0xFF):
-            yield put(data, place + 2, bytes([size])), (answers.TOO_LONG, place + 2, size)
-        both = put(put(data, place, b'\0\xff'), place + 2, b'\5')
-        yield both, (answers.UNKNOWN_CODE, place, 0xFF)
-        counted = put(both, 0, (tables.GREATEST_COUNT + 1).to_bytes(4, 'big'))
-        yield counted, (answers.TOO_MANY_ITEMS, 0, tables.GREATEST_COUNT + 1)
-
-
-def wrong_last_size(items):
-    """The list whose last item has more bits than are there, or fewer, and then perhaps one more item begun."""
-    if not items:
-        return
-    data, place = list_bytes(len(items), items), item_places(items)[-1]
-    end, bits = len(data), len(items[-1]) - SMALLEST_ITEM
-    if bits < tables.GREATEST_PCR_SIZE:
-        yield put(data, place + 2, bytes([bits + 1])), (answers.SHORT, place + 3, bits + 1)
-    one_more = put(data, 0, (len(items) + 1).to_bytes(4, 'big'))
-    if bits >= 1:
-        yield put(data, place + 2, bytes([bits - 1])), (answers.TRAILING, end - 1, 1)
-        if len(items) < tables.GREATEST_COUNT:
-            yield put(one_more, place + 2, bytes([bits - 1])), (answers.SHORT, end - 1, 2)
-    if bits >= 2 and len(items) < tables.GREATEST_COUNT:
-        begun = put(put(one_more, place + 2, bytes([bits - 2])), end - 2, tables.SHA256.to_bytes(2, 'big'))
-        yield begun, (answers.SHORT, end, 1)
-
-
-def split(total, count):
-    """So many items of so many bytes together; None if there are no such items."""
-    if not SMALLEST_ITEM * count <= total <= GREATEST_ITEM * count or count > tables.GREATEST_COUNT:
-        return None
-    sizes = [total // count + (i < total % count) for i in range(count)]
-    banks = [tables.ALGORITHMS[(total + 7 * i) % len(tables.ALGORITHMS)] for i in range(count)]
-    return tuple(bank.to_bytes(2, 'big') + bytes([size - SMALLEST_ITEM]) + damage.PATTERN[bank:][:size - SMALLEST_ITEM]
-                 for bank, size in zip(banks, sizes))
-
-
-def other_lists(items):
-    """Legal lists of the same length: with the fewest items and with the most."""
-    total = sum(map(len, items))
-    found = [split(total, count) for count in range(tables.GREATEST_COUNT + 1)]
-    found = [other for other in found if other is not None]
-    return found[:1] + found[1:][-1:]
-
-
-def list_span(row):
-    return next((part.span for part in row if isinstance(part, held.List)), None)
-
-
-def with_list(placed, data, items=(), fault=None):
-    """The records as a source, with another list in the place of theirs."""
-    span = list_span(placed.row)
-    if len(data) != span.length:
-        raise SystemExit(f'{placed.record.name}: another list has {len(data)} bytes and not {span.length}')
-    return held.Source(put(placed.data, span.start, data), items, fault)
-
-
-def legal_lists(kind, code, placed):
-    for turn, items in enumerate(other_lists(held.items_of(placed.record))):
-        source = with_list(placed, list_bytes(len(items), items), items)
-        for index in (0, len(items) - 1, len(items)):
-            if index >= 0:
-                room = 0 if index else calls.GREATEST_ROOM
-                yield 'another list', call(Asked(kind, code, room, index), placed, source)
-
-
-def faulty_lists(kind, code, placed):
-    """A faulty list is refused ahead of an index past its items, and behind a span past the end."""
-    items = held.items_of(placed.record)
-    turn = 0
-    for make in (wrong_counts, wrong_items, wrong_last_size):
-        for data, fault in make(items):
-            turn += 1
-            source = with_list(placed, data, (), fault)
-            yield 'faulty list', call(Asked(kind, code, turn % 2 * 200, turn % 4), placed, source)
-            if turn % 3 == 0:
-                end = list_span(placed.row).start + len(data)
-                for size in (end - 1, end):
-                    cut = source._replace(data=source.data[:size])
-                    yield 'faulty list, source cut', call(Asked(kind, code, index=2 + turn % 17), placed, cut)
+def other_sources(found):
+    for turn, (kind, record) in enumerate(with_sources(found)):
+        code = own_selector(kind, record)
+        second = another_of_its_arm(record, found) if kind in TWO_RECORDS and turn % 2 else None
+        placed = Placed(record, ahead(turn), b'', second)
+        yield from cut_sources(kind, code, placed)
+        if kind != 14:
+            codes = (*sorted(tables.WHOLE_ARMS[unions_of(kind)[0]]), tables.AES, tables.UNLISTED[turn % 9])
+            yield from cut_and_other_selector(kind, codes, placed)
+        if held.list_span(placed.row) is None:
+            yield from other_bytes(kind, code, placed)

@@ -15,6 +15,7 @@ import answers
 import cases
 import damage
 import records
+import replaced
 import sweeps
 import tables
 
@@ -137,7 +138,7 @@ def fill_calls(samples):
     real = records.load_real(HERE / 'real.jsonl')
     listed = [record for record in (records.record_of_sample(*s) for s in samples) if record]
     made = list(cases.all_cases(real, listed, one_of_each_layout(real)))
-    cases.require_complete([call for _, call in made])
+    replaced.require_complete([call for _, call in made])
     shelf = Shelf()
     shelf.put_all((sort, call.case, call.answer) for sort, call in made)
     return shelf

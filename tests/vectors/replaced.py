@@ -1,0 +1,125 @@
+"""Cases in which a part of the record is replaced: a selector, the magic, the auth value."""
+
+from itertools import count, product
+
+import answers
+import calls
+import held
+import tables
+from calls import AUTH, INNER, MAGIC, TWO_RECORDS, Asked, Placed, call
+from choice import FIELD_KINDS, INDICES, ahead, by_arm, filler, listed_codes, unions_of, with_every_arm
+
+SELECTOR_KINDS = (*range(1, 14), *INNER)
+WRITERS_REFUSALS = {*range(1, 10), answers.TRAILING}
+BEHINDS = (0, 0, 2, 0, 5)
+MAGICS = (0, 1, 0x4347, 0xFF54, 0xFFFF)
+AUTH_LENGTHS = (0, 1, 63, 64, 65, 66, 67, 110, 111, 0xFFFF)
+AUTH_SOURCES = (0, 63, 64, 65, 66, 110)
+
+
+# ---- Every arm under every code
+
+
+def index_by_turns(kind, code, turn):
+    """An index where there are byte fields and the code has an arm; else now and then, to keep the answers short."""
+    if kind in FIELD_KINDS and tables.arm_chosen(unions_of(kind)[0], code) is not None:
+        return turn % 4
+    return calls.NO_INDEX if turn % 29 else turn // 29 % 4
+
+
+class Tries:
+    """A selector tried with much room; where the record can be written, with just enough and too little."""
+
+    def __init__(self):
+        self.turns = count()
+        self.seen = set()
+
+    def tries(self, sort, kind, code, record, second=None):
+        turn = next(self.turns)
+        behind = filler(BEHINDS[turn % len(BEHINDS)], turn) if second or kind not in TWO_RECORDS else b''
+        placed = Placed(record, ahead(turn), behind, second)
+        asked = Asked(kind, code, index=index_by_turns(kind, code, turn))
+        size = calls.size_written(asked, placed)
+        if size is None:
+            yield from self.refused(sort, asked, placed)
+        else:
+            ample = (size + 1, size + 40, calls.GREATEST_ROOM)[turn % 3]
+            yield sort + ', written', call(asked._replace(room=ample), placed)
+            yield 'room to the byte', call(asked._replace(room=size), placed)
+            yield 'no room', call(asked._replace(room=size - 1), placed)
+            yield 'no room', call(asked._replace(room=0), placed)
+
+    def refused(self, sort, asked, placed):
+        """A refusal comes ahead of NoRoom: once with no room, for each kind, arms and number."""
+        found = call(asked, placed)
+        yield sort + ', refused', found
+        what = (asked.kind, found.number, found.tried[-1])
+        if what not in self.seen:
+            self.seen.add(what)
+            yield 'refused ahead of NoRoom', call(asked._replace(room=0), placed)
+
+
+def every_arm_under_every_code(found):
+    tries, turns = Tries(), count()
+    for kind in SELECTOR_KINDS:
+        for held_records in with_every_arm(kind, found).values():
+            for code in (*listed_codes(kind), *tables.UNLISTED[next(turns) % 3::3]):
+                yield from tries.tries('selector replaced', kind, code, held_records[0])
+    for kind in TWO_RECORDS:
+        arms = with_every_arm(kind, found)
+        for first_arm, firsts in arms.items():
+            for second_arm, seconds in arms.items():
+                second = seconds[min(first_arm == second_arm, len(seconds) - 1)]
+                for code in listed_codes(kind):
+                    yield from tries.tries('mode or unique of another', kind, code, firsts[0], second)
+
+
+def arms_due(kind):
+    """The arms that the unions of a replaced selector must have held together in some case."""
+    arms = [tables.arms_of(union) for union in unions_of(kind)]
+    return list(product(*arms)) if kind in TWO_RECORDS else list(zip(*arms))
+
+
+def require_complete(made):
+    """Every refusal of a writer comes up, and every arm under every code."""
+    missed = WRITERS_REFUSALS - {found.number for found in made}
+    if missed:
+        raise SystemExit(f'no case has the refusals {sorted(missed)} of a writer')
+    tried = {found.tried for found in made}
+    for kind in SELECTOR_KINDS:
+        due = {(kind, code, arms) for code in listed_codes(kind) for arms in arms_due(kind)}
+        if due - tried:
+            raise SystemExit(f'cases of kind {kind} lack the codes and arms {sorted(due - tried)}')
+
+
+# ---- Parts that are no selectors
+
+
+def magics(found):
+    """The magic comes first on the wire: no later fault and no lack of room is ahead of it."""
+    for turn, records in enumerate(by_arm(13, found).values()):
+        placed = Placed(records[0], ahead(turn), filler(turn % 3, turn))
+        for number in MAGICS:
+            asked = Asked(MAGIC, number, index=INDICES[turn % len(INDICES)])
+            yield 'magic replaced', call(asked, placed)
+            yield 'magic replaced', call(asked._replace(room=0), placed)
+            yield 'magic replaced', call(asked._replace(index=turn % 4), placed, placed.source._replace(data=b''))
+
+
+def auths(found):
+    """A span that is too long for its source is refused ahead of one that is too long for its buffer."""
+    for turn, records in enumerate(by_arm(12, found).values()):
+        placed = Placed(records[0], ahead(turn))
+        sources = [None, *(held.Source(filler(size, turn)) for size in AUTH_SOURCES)]
+        for length in AUTH_LENGTHS:
+            for number, source in enumerate(sources):
+                yield 'auth replaced', call(Asked(AUTH, length, index=(number + length) % 4), placed, source)
+            size = calls.size_written(Asked(AUTH, length), placed)
+            for room in (size, size - 1, 0) if size else ():
+                yield 'auth replaced', call(Asked(AUTH, length, room), placed)
+
+
+def replaced_cases(found):
+    yield from every_arm_under_every_code(found)
+    yield from magics(found)
+    yield from auths(found)
