@@ -66,7 +66,12 @@ def listed_codes(kind):
     return tables.ATTESTATION_TYPES if kind == 13 else tables.ALGORITHMS
 
 
+def last_arm_bytes(record):
+    row, source = held.row_of(record), held.Source(record.data)
+    return b''.join(part.written(source) for part in row[held.last_arm(row):])
+
+
 def another_of_its_arm(record, found):
-    """Another record that holds the same arm, for its mode or unique part; the record itself if there is none."""
+    """A record of the same arm with another mode or unique part; the record itself if there is none."""
     others = by_arm(record.kind, found)[held_arm(record.kind, record)]
-    return next((other for other in others if other.data != record.data), record)
+    return next((other for other in others if last_arm_bytes(other) != last_arm_bytes(record)), record)

@@ -201,12 +201,14 @@ def arms_by(row, selector):
     return [part for part in row if isinstance(part, Union) and part.selector == selector]
 
 
+def last_arm(row):
+    """Where the last union of the outer selector stands: a mode, a unique part. The row ends with its arm."""
+    outer = selectors(row)[0]
+    return max(i for i, part in enumerate(row) if isinstance(part, Union) and part.selector == outer)
+
+
 def with_last_arm(row, other):
-    """The row with what the last union of the outer selector holds in another row: a mode, a unique part."""
-    def last(parts):
-        outer = selectors(parts)[0]
-        return max(i for i, part in enumerate(parts) if isinstance(part, Union) and part.selector == outer)
-    return row[:last(row)] + other[last(other):]
+    return row[:last_arm(row)] + other[last_arm(other):]
 
 
 def with_part(row, index, part):

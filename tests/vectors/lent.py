@@ -77,7 +77,7 @@ def other_sources(found):
         placed = Placed(record, ahead(turn), b'', second)
         yield from cut_sources(kind, code, placed)
         if kind != 14:
-            codes = (*sorted(tables.WHOLE_ARMS[unions_of(kind)[0]]), tables.AES, tables.UNLISTED[turn % 9])
+            codes = (*tables.arms_of(unions_of(kind)[0]), tables.AES, tables.UNLISTED[turn % 9])
             yield from cut_and_other_selector(kind, codes, placed)
         if held.list_span(placed.row) is None:
             yield from other_bytes(kind, code, placed)

@@ -114,10 +114,14 @@ def require_every_arm(found):
             raise SystemExit(f'no record has the arms {missed} of the {union} union')
 
 
-def fill(samples):
+def listed_samples(samples):
+    """The records of those samples that are read."""
+    return [record for record in (records.record_of_sample(*s) for s in samples) if record]
+
+
+def fill(real, samples):
     """The shelf of all deposits, and how many records it was filled from."""
-    real = records.load_real(HERE / 'real.jsonl')
-    listed = [record for record in (records.record_of_sample(*s) for s in samples) if record]
+    listed = listed_samples(samples)
     require_every_arm(real + listed)
     layouts = one_of_each_layout(real + listed)
     shelf = Shelf()
@@ -133,11 +137,9 @@ def fill(samples):
     return shelf, {'real records': len(real), 'samples': len(samples), 'layouts': len(layouts)}
 
 
-def fill_calls(samples):
+def fill_calls(real, samples):
     """The shelf of all cases for `calls`."""
-    real = records.load_real(HERE / 'real.jsonl')
-    listed = [record for record in (records.record_of_sample(*s) for s in samples) if record]
-    made = list(cases.all_cases(real, listed, one_of_each_layout(real)))
+    made = list(cases.all_cases(real, listed_samples(samples), one_of_each_layout(real)))
     replaced.require_complete([call for _, call in made])
     shelf = Shelf()
     shelf.put_all((sort, call.case, call.answer) for sort, call in made)
@@ -176,9 +178,10 @@ def with_counts(page, begin, counts):
 
 def made_files():
     """The files by their paths, and the counts."""
+    real = records.load_real(HERE / 'real.jsonl')
     samples = records.load_samples(HERE / 'samples.txt')
-    shelf, sources = fill(samples)
-    calls = fill_calls(samples)
+    shelf, sources = fill(real, samples)
+    calls = fill_calls(real, samples)
     counts = '\n'.join(count_lines(shelf, sources)) + '\n'
     call_counts = '\n'.join(call_count_lines(calls)) + '\n'
     page = with_counts(README.read_text(encoding='utf-8'), DEPOSIT_COUNTS, counts)

@@ -7,7 +7,9 @@ import calls
 import held
 import tables
 from calls import AUTH, INNER, MAGIC, TWO_RECORDS, Asked, Placed, call
-from choice import FIELD_KINDS, INDICES, ahead, by_arm, filler, listed_codes, unions_of, with_every_arm
+from choice import (
+    FIELD_KINDS, INDICES, ahead, another_of_its_arm, by_arm, filler, listed_codes, unions_of, with_every_arm,
+)
 
 SELECTOR_KINDS = (*range(1, 14), *INNER)
 WRITERS_REFUSALS = {*range(1, 10), answers.TRAILING}
@@ -47,7 +49,7 @@ class Tries:
             yield sort + ', written', call(asked._replace(room=ample), placed)
             yield 'room to the byte', call(asked._replace(room=size), placed)
             yield 'no room', call(asked._replace(room=size - 1), placed)
-            yield 'no room', call(asked._replace(room=0), placed)
+            yield 'no room', call(asked._replace(room=0, index=calls.NO_INDEX), placed)
 
     def refused(self, sort, asked, placed):
         """A refusal comes ahead of NoRoom: once with no room, for each kind, arms and number."""
@@ -56,7 +58,7 @@ class Tries:
         what = (asked.kind, found.number, found.tried[-1])
         if what not in self.seen:
             self.seen.add(what)
-            yield 'refused ahead of NoRoom', call(asked._replace(room=0), placed)
+            yield 'refused ahead of NoRoom', call(asked._replace(room=0, index=calls.NO_INDEX), placed)
 
 
 def every_arm_under_every_code(found):
@@ -66,12 +68,11 @@ def every_arm_under_every_code(found):
             for code in (*listed_codes(kind), *tables.UNLISTED[next(turns) % 3::3]):
                 yield from tries.tries('selector replaced', kind, code, held_records[0])
     for kind in TWO_RECORDS:
-        arms = with_every_arm(kind, found)
-        for first_arm, firsts in arms.items():
-            for second_arm, seconds in arms.items():
-                second = seconds[min(first_arm == second_arm, len(seconds) - 1)]
-                for code in listed_codes(kind):
-                    yield from tries.tries('mode or unique of another', kind, code, firsts[0], second)
+        smallest = [held_records[0] for held_records in with_every_arm(kind, found).values()]
+        for first, second in product(smallest, smallest):
+            second = another_of_its_arm(first, found) if first == second else second
+            for code in listed_codes(kind):
+                yield from tries.tries('mode or unique of another', kind, code, first, second)
 
 
 def arms_due(kind):
