@@ -1,0 +1,12 @@
+// What a case asks for.
+
+pub struct Case {
+    pub kind: u8,
+    // The code that is put in place of the record's own.
+    pub selector: u16,
+    // Of the byte field and of the item.
+    pub index: usize,
+    // Where the two records begin.
+    pub first: usize,
+    pub second: usize,
+}

@@ -1,0 +1,151 @@
+// Answers every case on standard input: two bytes that say how long it is, then the case, and then the next. A case is a record, a selector to
+// put in place of its own, and what is then asked of it: whether its unions match, what it is written as, its tail, a byte field and an item.
+// tests/vectors/README.md has the bytes of a case and the lines of an answer.
+mod areas;
+mod case;
+mod inside;
+mod said;
+mod tagged;
+
+use crate::areas::tpml_pcr_selection;
+use crate::areas::tpms_attest;
+use crate::areas::tpmt_public;
+use crate::areas::tpmt_public_parms;
+use crate::areas::tpmt_sensitive;
+use crate::areas::tpmt_signature;
+use crate::areas::tpmt_sym_def;
+use crate::case::Case;
+use crate::inside::hmac_digest;
+use crate::inside::other_auth;
+use crate::inside::other_magic;
+use crate::inside::parms;
+use crate::inside::say_no_such_case;
+use crate::said::UNTOUCHED;
+use crate::tagged::tpmt_ecc_scheme;
+use crate::tagged::tpmt_ha;
+use crate::tagged::tpmt_kdf_scheme;
+use crate::tagged::tpmt_keyedhash_scheme;
+use crate::tagged::tpmt_rsa_decrypt;
+use crate::tagged::tpmt_rsa_scheme;
+use crate::tagged::tpmt_sig_scheme;
+use codes::uint::Uint16Read;
+use codes::uint::uint16;
+
+// What stands ahead of a case's records.
+const HEAD: usize = 14;
+
+const MOST_ROOM: usize = 4096;
+
+const MOST_CASE: usize = 8192;
+
+fn answer(case: Case, s: &[u8], src: &[u8], out: &mut [u8]) {
+    let kind = case.kind;
+    match kind {
+        1 => tpmt_ha(case, s, src, out),
+        2 => tpmt_sym_def(case, s, src, out),
+        3 => tpmt_kdf_scheme(case, s, src, out),
+        4 => tpmt_keyedhash_scheme(case, s, src, out),
+        5 => tpmt_sig_scheme(case, s, src, out),
+        6 => tpmt_rsa_scheme(case, s, src, out),
+        7 => tpmt_ecc_scheme(case, s, src, out),
+        8 => tpmt_rsa_decrypt(case, s, src, out),
+        9 => tpmt_public_parms(case, s, src, out),
+        10 => tpmt_signature(case, s, src, out),
+        11 => tpmt_public(case, s, src, out),
+        12 => tpmt_sensitive(case, s, src, out),
+        13 => tpms_attest(case, s, src, out),
+        14 => tpml_pcr_selection(case, s, src, out),
+        21 => hmac_digest(case, s, src, out),
+        22..=27 => parms(case, s, src, out),
+        28 => other_magic(case, s, src, out),
+        29 => other_auth(case, s, src, out),
+        _ => say_no_such_case(kind),
+    }
+}
+
+// Two bytes as a number; 0 where they are missing.
+fn two(s: &[u8], at: usize) -> u16 {
+    match uint16(s, at) {
+        Uint16Read::Found(n, _) => n,
+        Uint16Read::No(_) => 0,
+    }
+}
+
+fn case_of(bytes: &[u8], kind: u8) -> Case {
+    Case {
+        kind: kind,
+        selector: two(bytes, 1),
+        index: two(bytes, 5) as usize,
+        first: two(bytes, 7) as usize,
+        second: two(bytes, 9) as usize,
+    }
+}
+
+// Where nothing else is lent, the records are the source too. No answer if there are fewer bytes than the records have.
+fn answer_records(case: Case, lent: bool, size: usize, behind: &[u8], out: &mut [u8]) -> bool {
+    if size > behind.len() {
+        return false;
+    }
+    let records = &behind[..size];
+    if lent {
+        answer(case, records, &behind[size..], out);
+    } else {
+        answer(case, records, records, out);
+    }
+    true
+}
+
+// No answer to a case that is shorter than its head, or asks for more room than there is.
+fn answer_bytes(bytes: &[u8]) -> bool {
+    let mut space = [UNTOUCHED; MOST_ROOM];
+    if bytes.len() < HEAD {
+        return false;
+    }
+    let room = two(bytes, 3) as usize;
+    if room > MOST_ROOM {
+        return false;
+    }
+    let case = case_of(bytes, bytes[0]);
+    answer_records(
+        case,
+        bytes[11] != 0,
+        two(bytes, 12) as usize,
+        &bytes[HEAD..],
+        &mut space[..room],
+    )
+}
+
+// Answers a case of that length, if space has room for one and so many bytes come.
+fn answer_one(length: usize, space: &mut [u8]) -> bool {
+    if length > space.len() {
+        return false;
+    }
+    let taken = io::read_full(0, &mut space[..length]);
+    if taken < length {
+        return false;
+    }
+    answer_bytes(&space[..length])
+}
+
+// The length of the next case; one that no case has stands for the input's end.
+fn next_length() -> usize {
+    let mut head = [0u8; 2];
+    let taken = io::read_full(0, &mut head);
+    match uint16(&head[..taken], 0) {
+        Uint16Read::Found(n, _) => n as usize,
+        Uint16Read::No(_) => 65536,
+    }
+}
+
+fn answer_next() -> bool {
+    let mut space = [0u8; MOST_CASE];
+    answer_one(next_length(), &mut space)
+}
+
+// A proved loop has to end, and nothing says that an input does: this one counts down from a number that no run uses up.
+fn main() {
+    let mut turns = u64::MAX;
+    while turns > 0 && answer_next() {
+        turns -= 1;
+    }
+}

@@ -1,0 +1,111 @@
+// What a case is answered with, in lines.
+use crate::case::Case;
+use faults::Refusal;
+use text::answer::fit_refusal_line;
+use text::put::put_hex;
+use wire::measure::Measure;
+
+// Every byte of the output that is lent, before it is written to.
+pub const UNTOUCHED: u8 = 0xa5;
+
+// The index that asks for no part.
+const NO_INDEX: usize = 65535;
+
+pub fn say_match(yes: bool) {
+    if yes {
+        io::write_all(1, b"m 1\n");
+    } else {
+        io::write_all(1, b"m 0\n");
+    }
+}
+
+pub fn say_refusal(kind: u8, f: Refusal) {
+    let mut line = [0u8; 106];
+    let n = fit_refusal_line(kind, f, &mut line, 0);
+    if n <= 106 {
+        io::write_all(1, &line[..n]);
+    }
+}
+
+// A word, and the bytes in hexadecimal.
+fn say_bytes(word: &[u8], bytes: &[u8]) {
+    let mut digits = [0u8; 8193];
+    if bytes.len() > 4096 {
+        return;
+    }
+    let n = put_hex(bytes, &mut digits, 0);
+    io::write_all(1, word);
+    if n <= 8193 {
+        io::write_all(1, &digits[..n]);
+    }
+    io::write_all(1, b"\n");
+}
+
+// Whether all bytes from a place on are as they were lent.
+fn is_untouched(out: &[u8], from: usize) -> bool {
+    let mut i = from;
+    while i < out.len() {
+        if out[i] != UNTOUCHED {
+            return false;
+        }
+        i += 1;
+    }
+    true
+}
+
+fn say_written_bytes(out: &[u8], n: usize) {
+    if n <= out.len() {
+        say_bytes(b"again ", &out[..n]);
+    }
+    if !is_untouched(out, n) {
+        io::write_all(1, b"changed\n");
+    }
+}
+
+// What a writer answered, and whether it left the rest of its output alone.
+pub fn say_written(case: Case, written: Measure, out: &[u8]) {
+    match written {
+        Measure::Size(n) => say_written_bytes(out, n),
+        Measure::No(f) => {
+            say_refusal(case.kind, f);
+            if !is_untouched(out, 0) {
+                io::write_all(1, b"changed\n");
+            }
+        }
+    }
+}
+
+// A part that was asked for by index, or why there is none. Nothing is said if the two calls disagree.
+fn say_part(kind: u8, word: &[u8], size: Measure, part: &[u8]) {
+    match size {
+        Measure::Size(n) => {
+            if n == part.len() {
+                say_bytes(word, part);
+            }
+        }
+        Measure::No(f) => {
+            if part.len() == 0 {
+                say_refusal(kind, f);
+            }
+        }
+    }
+}
+
+// What stands behind the record, where a part is asked for.
+pub fn say_tail(case: Case, tail: &[u8]) {
+    if case.index != NO_INDEX {
+        say_bytes(b"tail ", tail);
+    }
+}
+
+pub fn say_field(case: Case, size: Measure, part: &[u8]) {
+    if case.index != NO_INDEX {
+        say_part(case.kind, b"field ", size, part);
+    }
+}
+
+pub fn say_item(case: Case, size: Measure, part: &[u8]) {
+    if case.index != NO_INDEX {
+        say_part(case.kind, b"item ", size, part);
+    }
+}
