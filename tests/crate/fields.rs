@@ -94,7 +94,7 @@ impl<const N: usize> Fields for TpmBuffer<N> {
 }
 
 fn written(part: &impl TpmMarshal) -> Vec<u8> {
-    let mut room = [0; 4096];
+    let mut room = [0; 256];
     let mut writer = TpmWriter::new(&mut room);
     part.marshal(&mut writer).expect("room enough");
     writer.as_bytes().to_vec()
