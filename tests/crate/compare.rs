@@ -9,7 +9,7 @@ mod tables;
 mod words;
 
 use answers::{Crates, OurAnswers, Ours, crates_answer, lines};
-use listed::{LISTED, class};
+use listed::class;
 use std::collections::HashSet;
 use std::hash::{DefaultHasher, Hash, Hasher};
 use tables::{Difference, Tables};
@@ -70,6 +70,11 @@ fn fingerprint(kind: u32, input: &str) -> u64 {
 fn main() {
     let words: Vec<String> = std::env::args().collect();
     let [_, mode, inputs, crates, ours] = &words[..] else { panic!("compare listed|same INPUTS CRATES OURS") };
+    let has_classes = match mode.as_str() {
+        "listed" => true,
+        "same" => false,
+        _ => panic!("listed or same, not {mode}"),
+    };
     let mut our_answers = OurAnswers(lines(ours));
     let mut crates_lines = lines(crates);
     let mut tables = Tables::default();
@@ -86,14 +91,15 @@ fn main() {
         for note in notes {
             tables.new_difference(&format!("the crate disagrees with itself: {note}"), kind, input, &first, &answer);
         }
-        let Some(how) = unlike(kind, input, &ours, &crates) else {
-            tables.alike(kind, sort, &ours, &crates);
-            continue;
+        let class = if has_classes { class(kind, &unhex(input).expect("hex")) } else { None };
+        let how = match &class {
+            Some(class) => (!class.holds(&ours, &crates)).then(|| format!("not as {} has it", class.name)),
+            None => unlike(kind, input, &ours, &crates),
         };
-        let bytes = unhex(input).expect("hex");
-        match class(kind, &bytes, &ours, &crates).filter(|_| mode.as_str() == "listed") {
-            Some(n) => tables.listed(&Difference { name: LISTED[n], kind, sort, input, ours: &first, crates: &answer }, &ours, &crates),
-            None => tables.new_difference(&how, kind, input, &first, &answer),
+        match (how, class) {
+            (Some(how), _) => tables.new_difference(&how, kind, input, &first, &answer),
+            (None, Some(class)) => tables.listed(&Difference { name: class.name, kind, sort, input, ours: &first, crates: &answer }, &ours, &crates),
+            (None, None) => tables.alike(kind, sort, &ours, &crates),
         }
     }
     assert!(crates_lines.next().is_none() && our_answers.0.next().is_none(), "answers are left over");

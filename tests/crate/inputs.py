@@ -257,47 +257,31 @@ def smallest_of_each_layout(real):
     return chosen.values()
 
 
+# Enough for any arm of the parameters, and for any digest.
+PARMS = '000b 0043 000b 0010' + '00' * 72
+DIGEST = bytes(range(64)).hex()
+# Where a code takes all 65,536 values: `*` in a record of that kind.
+SWEEPS = [
+    (1, '*'), (1, f'* {DIGEST}'),
+    (2, '* 0080 0043'), (2, '* 000b 0043'), (2, '0006 0080 *'), (2, '000a * 0043'), (2, '000a 000b *'), (2, '0013 0080 *'), (2, '0026 0080 *'),
+    (3, '* 000b'), (3, '0007 *'),
+    (4, '* 000b 0020'), (4, '0005 *'), (4, '000a * 0020'), (4, '000a 000b *'),
+    (5, '* 000b'), (5, '0014 *'), (6, '* 000b'), (6, '0014 *'), (7, '* 000b'), (7, '0014 *'), (8, '* 000b'), (8, '0014 *'),
+    (9, f'* {PARMS}'), (9, f'0001 * {PARMS}'), (9, f'0001 0010 * {PARMS}'), (9, '0023 0010 * 000b 0003 0010'), (9, '0023 0010 0010 * 0010'),
+    (9, '0023 0010 0010 0003 * 000b'), (9, '0008 * 000b 0020'), (9, '0025 * 0080 0043'),
+    (10, f'* 000b {"00" * 64}'), (10, f'0005 * {"00" * 64}'), (10, '0014 * 0000'), (10, '0018 * 0000 0000'),
+    (11, f'* 000b 00000000 0000 0010 0010 0010 0010 0000 0000 {"00" * 8}'), (11, '0010 * 00000000 0000'),
+    (12, '* 0000 0000 0000'), (12, '* 0000 0000'),
+    (13, f'ff544347 * {"00" * 70}'), (13, f'ff544347 8015 0000 0000 {"00" * 33} * 0000 0000'),
+    (14, '00000001 * 00'),
+]
+
+
 def sweeps():
-    """All 65,536 values of a code: what stands ahead of it and behind it. Where an arm follows there is enough for any arm."""
-    fill = bytes.fromhex('000b 0043 000b 0010') + bytes(72)
-    head13 = b'\xffTCG'
-    yield 1, b'', b''
-    yield 1, b'', bytes(range(64))
-    yield 2, b'', bytes.fromhex('0080 0043')
-    yield 2, b'', bytes.fromhex('000b 0043')
-    yield 2, bytes.fromhex('0006 0080'), b''
-    yield 2, bytes.fromhex('000a'), bytes.fromhex('0043')
-    yield 2, bytes.fromhex('000a 000b'), b''
-    yield 2, bytes.fromhex('0013 0080'), b''
-    yield 2, bytes.fromhex('0026 0080'), b''
-    yield 3, b'', bytes.fromhex('000b')
-    yield 3, bytes.fromhex('0007'), b''
-    yield 4, b'', bytes.fromhex('000b 0020')
-    yield 4, bytes.fromhex('0005'), b''
-    yield 4, bytes.fromhex('000a'), bytes.fromhex('0020')
-    yield 4, bytes.fromhex('000a 000b'), b''
-    for kind in (5, 6, 7, 8):
-        yield kind, b'', bytes.fromhex('000b')
-        yield kind, bytes.fromhex('0014'), b''
-    yield 9, b'', fill
-    yield 9, bytes.fromhex('0001'), fill
-    yield 9, bytes.fromhex('0001 0010'), fill
-    yield 9, bytes.fromhex('0023 0010'), bytes.fromhex('000b 0003 0010')
-    yield 9, bytes.fromhex('0023 0010 0010'), bytes.fromhex('0010')
-    yield 9, bytes.fromhex('0023 0010 0010 0003'), bytes.fromhex('000b')
-    yield 9, bytes.fromhex('0008'), bytes.fromhex('000b 0020')
-    yield 9, bytes.fromhex('0025'), bytes.fromhex('0080 0043')
-    yield 10, b'', bytes.fromhex('000b') + bytes(64)
-    yield 10, bytes.fromhex('0005'), bytes(64)
-    yield 10, bytes.fromhex('0014'), bytes(2)
-    yield 10, bytes.fromhex('0018'), bytes(4)
-    yield 11, b'', bytes.fromhex('000b 00000000 0000 0010 0010 0010 0010 0000 0000') + bytes(8)
-    yield 11, bytes.fromhex('0010'), bytes(6)
-    yield 12, b'', bytes(6)
-    yield 12, b'', bytes(4)
-    yield 13, head13, bytes(70)
-    yield 13, head13 + bytes.fromhex('8015 0000 0000') + bytes(33), bytes(4)
-    yield 14, bytes.fromhex('00000001'), bytes(1)
+    """The kind, and what stands ahead of the code and behind it."""
+    for kind, record in SWEEPS:
+        ahead, behind = record.split('*')
+        yield kind, bytes.fromhex(ahead), bytes.fromhex(behind)
 
 
 def put_whole(out, r, real):

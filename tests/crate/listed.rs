@@ -3,8 +3,6 @@
 
 use crate::answers::{Crates, Ours};
 
-pub const LISTED: [&str; 2] = ["2.1, a list of 9 to 16 items", "2.5, an attestation type outside the eight"];
-
 const MAGIC: [u8; 4] = [0xff, 0x54, 0x43, 0x47];
 const QUOTE: u64 = 0x8018;
 /// The structure tags that the rebuilt `TpmSt` has besides the eight attestation types.
@@ -50,34 +48,56 @@ fn arm_place(input: &[u8]) -> Result<usize, Fault> {
     Ok(at + 9)
 }
 
+/// What we answer to an input of a class.
+enum Here {
+    /// Read, or refused for what an item or the field behind the list can have, at that place or behind it.
+    From(usize),
+    Refused { number: u64, place: usize, value: u64 },
+}
+
+/// A class of difference, and what each side has to answer to this input of it.
+pub struct Listed {
+    pub name: &'static str,
+    crates: (&'static str, &'static str, u64),
+    here: Here,
+}
+
 /// 2.1: the crate refuses the count for its capacity; we go on behind it.
-fn is_capacity(kind: u32, input: &[u8], ours: &Ours, crates: &Crates) -> bool {
+fn capacity(kind: u32, input: &[u8]) -> Option<Listed> {
     let list = match attestation_type(kind, input) {
-        Some(QUOTE) => arm_place(input).ok(),
-        _ => (kind == 14).then_some(0),
+        Some(QUOTE) => arm_place(input).ok()?,
+        _ if kind == 14 => 0,
+        _ => return None,
     };
-    let Some((list, count)) = list.and_then(|at| Some((at, number(input, at, 4).ok()?))) else { return false };
-    let refused_behind = match ours {
-        Ours::Read { .. } => true,
-        Ours::Refused { number, place, .. } => matches!(number, 1 | 2 | 4) && *place >= list + 4,
-    };
-    (9..=16).contains(&count)
-        && refused_behind
-        && matches!(crates, Crates::Refused { who: "text", name: "TooManyItems", value, .. } if *value == count)
+    let count = number(input, list, 4).ok().filter(|count| (9..=16).contains(count))?;
+    Some(Listed { name: "2.1, a list of 9 to 16 items", crates: ("text", "TooManyItems", count), here: Here::From(list + 4) })
 }
 
-/// 2.5: we refuse the type where it stands; the crate at a later field, or in the union.
-fn is_type(kind: u32, input: &[u8], ours: &Ours, crates: &Crates) -> bool {
-    let Some(tag) = attestation_type(kind, input).filter(|tag| OTHER_TAGS.contains(tag)) else { return false };
-    let (who, name, value) = match arm_place(input) {
-        Ok(_) => ("text", "VariantNotAvailable", tag),
-        Err((fault, value)) => ("rebuilt", fault, value),
+/// 2.5: we refuse the type where it stands; the crate at the first field behind it that has a fault, or in the union.
+fn other_type(kind: u32, input: &[u8]) -> Option<Listed> {
+    let value = attestation_type(kind, input).filter(|tag| OTHER_TAGS.contains(tag))?;
+    let crates = match arm_place(input) {
+        Ok(_) => ("text", "VariantNotAvailable", value),
+        Err((fault, of)) => ("rebuilt", fault, of),
     };
-    matches!(ours, Ours::Refused { number: 2, place: 4, value } if *value == tag)
-        && matches!(crates, Crates::Refused { who: w, name: n, value: v, .. } if (*w, *n, *v) == (who, name, value))
+    let here = Here::Refused { number: 2, place: 4, value };
+    Some(Listed { name: "2.5, an attestation type outside the eight", crates, here })
 }
 
-/// Which of `LISTED` a difference is.
-pub fn class(kind: u32, input: &[u8], ours: &Ours, crates: &Crates) -> Option<usize> {
-    [is_capacity, is_type].iter().position(|is| is(kind, input, ours, crates))
+/// The class that an input belongs to.
+pub fn class(kind: u32, input: &[u8]) -> Option<Listed> {
+    capacity(kind, input).or_else(|| other_type(kind, input))
+}
+
+impl Listed {
+    /// Whether both sides answered as they have to.
+    pub fn holds(&self, ours: &Ours, crates: &Crates) -> bool {
+        let here = match (&self.here, ours) {
+            (Here::From(_), Ours::Read { .. }) => true,
+            (Here::From(first), Ours::Refused { number, place, .. }) => matches!(number, 1 | 2 | 4) && place >= first,
+            (Here::Refused { number: n, place: p, value: v }, Ours::Refused { number, place, value }) => (n, p, v) == (number, place, value),
+            _ => false,
+        };
+        here && matches!(crates, Crates::Refused { who, name, value, .. } if (*who, *name, *value) == self.crates)
+    }
 }

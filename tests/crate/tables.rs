@@ -154,7 +154,12 @@ impl Tables {
         for (how, class) in &self.new {
             println!("\nNEW: {how}: {} inputs. The shortest:\n{}", class.inputs, class.shortest.as_ref().map_or("", |(_, text)| text));
         }
-        println!("\n{}", if self.is_explained() { "no difference but those listed" } else { "NOT EXPLAINED" });
+        let end = match (self.is_explained(), self.listed.is_empty()) {
+            (true, true) => "no difference",
+            (true, false) => "no difference but those listed",
+            (false, _) => "NOT EXPLAINED",
+        };
+        println!("\n{end}");
     }
 
     /// The kinds, and all of them together.
@@ -163,7 +168,8 @@ impl Tables {
     }
 
     fn print_answers(&self, all: &Counts) {
-        println!("\n| Kind | Inputs | Read alike | of these by the text alone | Fields alike: text | rebuilt | Refused alike: text | rebuilt | at one place: text | rebuilt | Listed: text | rebuilt | New |");
+        print!("\n| Kind | Inputs | Read alike | of these by the text alone | Fields alike: text | rebuilt ");
+        println!("| Refused alike: text | rebuilt | at one place: text | rebuilt | Listed: text | rebuilt | New |");
         println!("|---|---|---|---|---|---|---|---|---|---|---|---|---|");
         for (kind, c) in self.rows(all) {
             print!("| {kind} | {} | {} | {} ", c.inputs, c.read.text + c.read.rebuilt, c.read.text);
@@ -196,6 +202,9 @@ impl Tables {
     }
 
     fn print_listed(&self) {
+        if self.listed.is_empty() {
+            return;
+        }
         println!("\n| Listed difference | Inputs | one side accepts | The crate's refusal: text | rebuilt |\n|---|---|---|---|---|");
         for (name, class) in &self.listed {
             println!("| {name} | {} | {} | {} | {} |", class.inputs, class.one_accepts, class.refused.text, class.refused.rebuilt);
