@@ -55,7 +55,7 @@ impl TpmError {
     }
 }
 
-/// A size as an error's value (list.rs:215).
+/// A size as an error's value (list.rs:227).
 #[must_use]
 pub fn tpm_value(value: usize) -> u64 {
     u64::try_from(value).unwrap_or(u64::MAX)

@@ -1,6 +1,6 @@
 //! Rebuilt, not the crate's. The macros that the text calls, in the forms in which it calls them, and three for the rebuilt modules.
 
-/// Forced: the unchecked casts of a transparent byte view (lib.rs:108, 243, list.rs:358).
+/// Forced: the unchecked casts of a transparent byte view (lib.rs:111, 247, list.rs:358).
 #[macro_export]
 macro_rules! tpm_byte_view {
     (array $name:ident<const $n:ident: usize>) => {
@@ -128,7 +128,7 @@ macro_rules! tpm_wire {
     };
 }
 
-/// A structure whose fields follow one another. The form of the call is forced (tpmt.rs:411); that no offset is moved is a guess.
+/// A structure whose fields follow one another. The form of the call is forced (tpmt.rs:412); that no offset is moved is a guess.
 #[macro_export]
 macro_rules! tpm_struct {
     (

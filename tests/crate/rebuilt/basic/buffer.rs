@@ -1,5 +1,5 @@
 //! Rebuilt, not the crate's. A sized buffer: a 2-byte length, judged against the limit ahead of the body (docs/FORMAT.md, sections 2 and 4), then
-//! the bytes. Forced are the names, `Deref` to bytes, `Default` and `TryFrom` (tpmu.rs:240, 323).
+//! the bytes. Forced are the names, `Deref` to bytes, `Default` and `TryFrom` (tpmu.rs:241, 323).
 
 use crate::{TpmCast, TpmError, TpmField, TpmMarshal, TpmResult, TpmSized, TpmUnmarshal, TpmWriter, basic::TpmUint16, error::Fault};
 use core::{

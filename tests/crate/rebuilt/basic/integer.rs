@@ -1,5 +1,5 @@
-//! Rebuilt, not the crate's. Numbers, read by value. Big-endian is forced (lib.rs:25), and so is that a number is as wide in memory as on the
-//! wire (list.rs:17, tpmu.rs:481). Which widths there are and how a missing byte is refused: docs/FORMAT.md, sections 1 and 2.
+//! Rebuilt, not the crate's. Numbers, read by value, and big-endian, as the text says (lib.rs:25). Forced is that a number is as wide in memory
+//! as on the wire (list.rs:17, tpmu.rs:481). Which widths there are and how a missing byte is refused: docs/FORMAT.md, sections 1 and 2.
 
 use crate::{TpmError, TpmField, TpmMarshal, TpmResult, TpmSized, TpmUnmarshal, TpmWriter, error::Fault};
 

@@ -226,7 +226,7 @@ impl TpmSized for TpmsAttest {
 }
 
 impl TpmMarshal for TpmsAttest {
-    /// In the form of the text's tagged structures: the arm is tested ahead of the first byte (tpmt.rs:37).
+    /// In the form of the text's tagged structures: the arm is tested ahead of the first byte (tpmt.rs:38).
     fn marshal(&self, writer: &mut TpmWriter) -> TpmResult<()> {
         if !self.attested.matches_tag(self.attest_type) {
             return Err(TpmError::rebuilt(Fault::Arm, writer.len(), usize::from(self.attest_type.value())));
