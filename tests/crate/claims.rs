@@ -1,0 +1,315 @@
+//! What docs/DIFFERENCES.md says of the crate, tried on its text. Each claim is printed with its section, and `holds` or `FAILS`. A claim marked
+//! (rebuilt) leans on more of a rebuilt module than the numbers of the codes and that these have 2 bytes.
+//!
+//! Not tried, since there is nothing to try it on: what needs a 16-bit machine (2.1), and what that document calls cut.
+
+mod words;
+
+use std::fmt::Debug;
+use tpm2_protocol::{
+    TpmCast, TpmError, TpmField, TpmMarshal, TpmResult, TpmSized, TpmUnmarshal, TpmUnmarshalTagged, TpmWriter,
+    basic::{TpmBuffer, TpmList, TpmUint16, Tpml},
+    constant::{MAX_DIGEST_SIZE, TPM_MAX_COMMAND_SIZE},
+    data::*,
+    frame::Fault,
+};
+use words::{hex, unhex};
+
+#[derive(Default)]
+struct Tally {
+    text: u32,
+    rebuilt: u32,
+    failed: u32,
+}
+
+impl Tally {
+    fn judge<T: PartialEq + Debug>(&mut self, what: &str, mark: &str, found: T, claimed: T) -> bool {
+        let holds = found == claimed;
+        println!("{}  {what}{mark}", if holds { "holds" } else { "FAILS" });
+        if !holds {
+            println!("       found   {found:?}\n       claimed {claimed:?}");
+            self.failed += 1;
+        }
+        holds
+    }
+    /// Decided by the text.
+    fn text<T: PartialEq + Debug>(&mut self, what: &str, found: T, claimed: T) {
+        self.text += u32::from(self.judge(what, "", found, claimed));
+    }
+    fn rebuilt<T: PartialEq + Debug>(&mut self, what: &str, found: T, claimed: T) {
+        self.rebuilt += u32::from(self.judge(what, " (rebuilt)", found, claimed));
+    }
+}
+
+fn bytes(text: &str) -> Vec<u8> {
+    unhex(&text.replace(' ', "")).expect("hex")
+}
+
+/// The bytes consumed and the tail.
+fn read<T: TpmUnmarshal>(text: &str) -> TpmResult<(usize, String)> {
+    let input = bytes(text);
+    T::unmarshal(&input).map(|(_, tail)| (input.len() - tail.len(), hex(tail)))
+}
+
+fn view<T: for<'a> TpmField<'a>>(text: &str) -> TpmResult<(usize, String)> {
+    let input = bytes(text);
+    T::cast_prefix_field(&input).map(|(_, tail)| (input.len() - tail.len(), hex(tail)))
+}
+
+type Read = TpmResult<(usize, String)>;
+
+fn consumed(count: usize, tail: &str) -> Read {
+    Ok((count, tail.to_string()))
+}
+
+fn no_arm(offset: usize, value: u64) -> Read {
+    Err(TpmError::VariantNotAvailable { offset, value })
+}
+
+fn too_many(actual: usize) -> Read {
+    Err(TpmError::TooManyItems { offset: 0, limit: 8, actual })
+}
+
+fn fault(fault: Fault, offset: usize, value: usize) -> Read {
+    Err(TpmError::rebuilt(fault, offset, value))
+}
+
+/// The four calls that walk a list's items: `unmarshal`, the field view, and the two typed views.
+fn walkers(text: &str) -> [Read; 4] {
+    let input = bytes(text);
+    let prefix = Tpml::<8>::cast_prefix_items::<TpmsPcrSelectionWire>(&input).map(|(list, tail)| (list.len(), hex(tail)));
+    let whole = Tpml::<8>::cast_items::<TpmsPcrSelectionWire>(&input).map(|list| (list.len(), String::new()));
+    [read::<TpmlPcrSelection>(text), view::<TpmlPcrSelection>(text), prefix, whole]
+}
+
+/// What `items` of a view hands out that is judged by its count alone.
+fn items(text: &str) -> Vec<Option<String>> {
+    let input = bytes(text);
+    let list = Tpml::<8>::cast(&input).expect("a count within the capacity");
+    list.items::<TpmsPcrSelectionWire>().map(|item| item.map(|wire| hex(wire.as_bytes())).ok()).collect()
+}
+
+fn lists(t: &mut Tally) {
+    let item = || Some("000b00".to_string());
+    let nine = format!("00000009{}", "000b00".repeat(9));
+    t.text("2.1 nine items: TooManyItems, limit 8, actual 9", walkers(&nine), [9; 4].map(too_many));
+    t.text("2.1 00000009: the same", walkers("00000009"), [9; 4].map(too_many));
+    t.text("2.1 00000011: both sides refuse for the count", walkers("00000011"), [17; 4].map(too_many));
+    t.text("2.1 00000001 by Tpml::cast: accepted", Tpml::<8>::cast(&bytes("00000001")).map(Tpml::len), Ok(4));
+    let five = bytes("00000000 00");
+    t.text("2.1 00000000 00 by Tpml::cast: accepted", Tpml::<8>::cast(&five).map(Tpml::len), Ok(5));
+    let prefix = <Tpml<8> as TpmCast>::cast_prefix(&five).map(|(list, tail)| (list.len(), tail.len()));
+    t.text("2.1 00000000 00 by TpmCast::cast_prefix: 5 bytes, no tail", prefix, Ok((5, 0)));
+    t.rebuilt("2.1 items of 00000002 000B00: the first, then an error", items("00000002 000b00"), vec![item(), None]);
+    t.rebuilt("2.1 items of 00000001 000B00 FF: the first, and an end", items("00000001 000b00 ff"), vec![item()]);
+    let eight = format!("00000008{}", "000b00".repeat(8));
+    t.rebuilt("2.1 eight items: read by all calls that walk them", walkers(&eight), [28; 4].map(|n| consumed(n, "")));
+    let short: [Read; 4] = std::array::from_fn(|_| fault(Fault::End, 0, 2));
+    t.rebuilt("2.1, 2.4 00000001: refused by all calls that walk the items, with the item's own error, not moved", walkers("00000001"), short);
+    let bad: [Read; 4] = std::array::from_fn(|_| fault(Fault::Code, 0, 2));
+    t.rebuilt("1 a walk ends at its first bad item: 00000003 000B00 0002", walkers("00000003 000b00 0002"), bad);
+}
+
+fn tails(t: &mut Tally) {
+    let null = TpmtHa::unmarshal(&bytes("0010 00")).map(|(record, tail)| (record.digest, hex(tail)));
+    t.text("2.2 kind 1, 0010 00: Null, tail 00", null, Ok((TpmuHa::Null, "00".to_string())));
+    let by_unmarshal: [fn(&str) -> Read; 10] = [
+        read::<TpmtHa>, read::<TpmtSymDef>, read::<TpmtKdfScheme>, read::<TpmtKeyedhashScheme>, read::<TpmtSigScheme>,
+        read::<TpmtRsaScheme>, read::<TpmtEccScheme>, read::<TpmtRsaDecrypt>, read::<TpmtPublicParms>, read::<TpmtSignature>,
+    ];
+    let by_view: [fn(&str) -> Read; 10] = [
+        view::<TpmtHa>, view::<TpmtSymDef>, view::<TpmtKdfScheme>, view::<TpmtKeyedhashScheme>, view::<TpmtSigScheme>,
+        view::<TpmtRsaScheme>, view::<TpmtEccScheme>, view::<TpmtRsaDecrypt>, view::<TpmtPublicParms>, view::<TpmtSignature>,
+    ];
+    let handed_back: [Read; 10] = std::array::from_fn(|_| consumed(2, "ffff"));
+    t.text("2.2 kinds 1 to 10, Null: unmarshal hands the tail back", by_unmarshal.map(|call| call("0010 ffff")), handed_back.clone());
+    t.text("2.2 kinds 1 to 10, Null: the view hands the tail back", by_view.map(|call| call("0010 ffff")), handed_back);
+    let area = "0010 000b 00000000 0000 ff";
+    let both = [read::<TpmtPublic>(area), view::<TpmtPublic>(area)];
+    t.rebuilt("2.2 kind 11: unmarshal and the view hand the tail back", both, [consumed(10, "ff"), consumed(10, "ff")]);
+    t.rebuilt("2.2 kind 12: unmarshal hands the tail back", read::<TpmtSensitive>("0001 0000 0000 0000 ff"), consumed(8, "ff"));
+    let trailing = |offset| Some(TpmError::TrailingData { offset, actual: 1 });
+    let whole = |text| Tpml::<8>::validate_items::<TpmsPcrSelectionWire>(&bytes(text)).err();
+    t.text("2.2 Tpml::validate_items refuses a tail, 00000000 00", whole("00000000 00"), trailing(4));
+    t.rebuilt("2.2 Tpml::validate_items refuses a tail, 00000001 000B00 FF", whole("00000001 000b00 ff"), trailing(7));
+}
+
+fn places(t: &mut Tally) {
+    t.text("2.4 kind 2, 0001: offset 0, value 1", read::<TpmtSymDef>("0001"), no_arm(0, 1));
+    t.rebuilt("2.4 kind 11, 0004 000B 00000000 0000: offset 0, value 4", read::<TpmtPublic>("0004 000b 00000000 0000"), no_arm(0, 4));
+    t.rebuilt("2.4 kind 12, 0010 0000 0000: offset 0, value 16", read::<TpmtSensitive>("0010 0000 0000"), no_arm(0, 16));
+    t.text("2.4 kind 1, 0001 as a view: offset 0, value 1", view::<TpmtHa>("0001"), no_arm(0, 1));
+    t.rebuilt("2.4 kind 1, 0001 by unmarshal: offset 2", read::<TpmtHa>("0001"), no_arm(2, 1));
+    t.rebuilt("2.4 kind 9, 0025 0001: offset 2, value 1", read::<TpmtPublicParms>("0025 0001"), no_arm(2, 1));
+    let moved = [
+        read::<TpmtHa>("003f"), read::<TpmtKdfScheme>("003f"), read::<TpmtKeyedhashScheme>("003f"), read::<TpmtSigScheme>("003f"),
+        read::<TpmtRsaScheme>("003f"), read::<TpmtEccScheme>("003f"), read::<TpmtRsaDecrypt>("003f"), read::<TpmtPublicParms>("003f"),
+        read::<TpmtSignature>("003f"),
+    ];
+    t.rebuilt("2.4 kinds 1 and 3 to 10: moved by the length of the tag", moved, std::array::from_fn(|_| no_arm(2, 63)));
+    let views = [
+        view::<TpmtHa>("003f"), view::<TpmtSymDef>("003f"), view::<TpmtKdfScheme>("003f"), view::<TpmtKeyedhashScheme>("003f"),
+        view::<TpmtSigScheme>("003f"), view::<TpmtRsaScheme>("003f"), view::<TpmtEccScheme>("003f"), view::<TpmtRsaDecrypt>("003f"),
+        view::<TpmtPublicParms>("003f"), view::<TpmtSignature>("003f"),
+    ];
+    t.text("2.4 kinds 1 to 10: no borrowed view moves an offset", views, std::array::from_fn(|_| no_arm(0, 63)));
+    t.rebuilt("2.4 kind 11: nor does its view", view::<TpmtPublic>("003f 000b 00000000 0000"), no_arm(0, 63));
+}
+
+fn settled(t: &mut Tally) {
+    t.text("1 reading stops after a Null cipher", read::<TpmtSymDef>("0010 0080 0043"), consumed(2, "00800043"));
+    t.text("1, 3 Xor has a mode: 000A 000B 0043, 6 bytes", read::<TpmtSymDef>("000a 000b 0043"), consumed(6, ""));
+    t.rebuilt("1, 3 Xor has a mode: 000A 000B is short", read::<TpmtSymDef>("000a 000b"), fault(Fault::End, 0, 2));
+    t.rebuilt("1 kind 11: the fields ahead of an arm are judged first", read::<TpmtPublic>("0004 0002"), fault(Fault::Code, 0, 2));
+    t.rebuilt("1 kind 12: the fields ahead of an arm are judged first", read::<TpmtSensitive>("0010 0000"), fault(Fault::End, 0, 2));
+    let longest = format!("000d{}", "00".repeat(64));
+    t.rebuilt("1 kind 1, 000D and 64 bytes: read, 66 bytes", read::<TpmtHa>(&longest), consumed(66, ""));
+    t.rebuilt("3 kind 5, 001A 000B 0000: Ecdaa has no count", read::<TpmtSigScheme>("001a 000b 0000"), consumed(4, "0000"));
+    t.rebuilt("3 kind 7, 001A 000B 0000: Ecdaa has no count", read::<TpmtEccScheme>("001a 000b 0000"), consumed(4, "0000"));
+    let unique = format!("0025 000b 00000000 0000 0006 0080 0043 0021{}", "00".repeat(33));
+    t.rebuilt("3 kind 11: the unique part of a SymCipher object is a key", read::<TpmtPublic>(&unique), fault(Fault::Length, 0, 33));
+    t.text("4 kind 2, 0003 00C0 0043: TDES has no arm", read::<TpmtSymDef>("0003 00c0 0043"), no_arm(0, 3));
+}
+
+fn digest(size: usize) -> TpmuHa {
+    TpmuHa::Digest(TpmBuffer::try_from(&[7; 64][..size]).expect("fits"))
+}
+
+fn all_codes<T: TryFrom<u16>>() -> Vec<T> {
+    (0..=u16::MAX).filter_map(|code| T::try_from(code).ok()).collect()
+}
+
+fn arms(t: &mut Tally) {
+    let hash = TpmsSchemeHash { hash_alg: TpmAlgId::Sha256 };
+    let signing = [TpmAlgId::Rsassa, TpmAlgId::Rsapss, TpmAlgId::Ecdsa, TpmAlgId::Ecdaa, TpmAlgId::Sm2, TpmAlgId::Ecschnorr];
+    t.text("2.5 signing scheme: Hash under Hmac, no", TpmuSigScheme::Hash(hash).matches_tag(TpmAlgId::Hmac), false);
+    t.text("2.5 signing scheme: Hmac under Rsassa, no", TpmuSigScheme::Hmac(hash).matches_tag(TpmAlgId::Rsassa), false);
+    t.text("2.5 signing scheme: Hash under the six, yes", signing.map(|code| TpmuSigScheme::Hash(hash).matches_tag(code)), [true; 6]);
+    t.text("2.5 asymmetric scheme: Null under Rsaes, yes", TpmuAsymScheme::Null.matches_tag(TpmAlgId::Rsaes), true);
+    let rsassa = TpmuSignature::Rsassa(TpmsSignatureRsa::default());
+    t.text("2.5 signature: Rsassa under Rsapss, no", rsassa.matches_tag(TpmAlgId::Rsapss), false);
+    let rsa = TpmuSensitiveComposite::Rsa(Tpm2bPrivateKeyRsa::default());
+    t.text("2.5 sensitive: Rsa under KeyedHash, no", rsa.matches_tag(TpmAlgId::KeyedHash), false);
+    let of_32 = [TpmAlgId::Sha256, TpmAlgId::Sm3_256, TpmAlgId::Sha3_256, TpmAlgId::Shake256_256];
+    t.text("2.5 a digest of 32 bytes under the four, yes", of_32.map(|code| digest(32).matches_tag(code)), [true; 4]);
+    t.text("2.5 a digest of 0 bytes under Null, no", digest(0).matches_tag(TpmAlgId::Null), false);
+    let lengths: Vec<_> = all_codes::<TpmAlgId>()
+        .into_iter()
+        .flat_map(|code| (0..=64).filter(move |size| digest(*size).matches_tag(code)).map(move |size| (code.value(), size)))
+        .collect();
+    let listed = vec![
+        (0x04, 20), (0x0b, 32), (0x0c, 48), (0x0d, 64), (0x12, 32), (0x27, 32), (0x28, 48), (0x29, 64), (0x2c, 24), (0x2d, 32), (0x2e, 64),
+    ];
+    t.text("1 of all algorithms and digests of 0 to 64 bytes, the eleven pairs of docs/FORMAT.md match", lengths, listed);
+    let armless: Vec<_> = all_codes::<TpmSt>()
+        .into_iter()
+        .filter_map(|tag| match TpmuAttest::unmarshal_tagged(tag, &[]) {
+            Err(TpmError::VariantNotAvailable { offset: 0, value }) if value == u64::from(tag.value()) => Some(value),
+            _ => None,
+        })
+        .collect();
+    let others = vec![0xc4, 0x8000, 0x8001, 0x8002, 0x8021, 0x8022, 0x8023, 0x8024, 0x8025, 0x8029];
+    t.text("2.5 the attestation union alone: VariantNotAvailable under each tag but the eight, 8021 among them", armless, others);
+}
+
+/// What `marshal` answers with that room, and the bytes that it leaves behind.
+fn written<T: TpmMarshal>(record: &T, room: usize) -> (TpmResult<()>, String) {
+    let mut space = vec![0; room];
+    let mut writer = TpmWriter::new(&mut space);
+    let answer = record.marshal(&mut writer);
+    (answer, hex(writer.as_bytes()))
+}
+
+fn not_its_arm(offset: usize, value: u64, left: &str) -> (TpmResult<()>, String) {
+    (Err(TpmError::VariantNotAvailable { offset, value }), left.to_string())
+}
+
+fn no_room(offset: usize, needed: usize, available: usize, left: &str) -> (TpmResult<()>, String) {
+    (Err(TpmError::BufferOverflow { offset, needed, available }), left.to_string())
+}
+
+fn hashed(hash_alg: TpmAlgId, digest: TpmuHa) -> TpmtHa {
+    TpmtHa { hash_alg, digest }
+}
+
+fn cipher(algorithm: TpmAlgId, key_bits: TpmuSymKeyBits, mode: TpmuSymMode) -> TpmtSymDef {
+    TpmtSymDef { algorithm, key_bits, mode }
+}
+
+fn wrong_arms(t: &mut Tally) {
+    let rsa = hashed(TpmAlgId::Rsa, TpmuHa::Null);
+    t.text("2.6 kind 1, Rsa with Null: offset 0, value 1", written(&rsa, 9), not_its_arm(0, 1, ""));
+    let sha1 = hashed(TpmAlgId::Sha1, TpmuHa::Null);
+    t.text("2.6 kind 1, Sha1 with Null: offset 0, value 4", written(&sha1, 9), not_its_arm(0, 4, ""));
+    let bits = TpmuSymKeyBits::Aes(128.into());
+    let aes = cipher(TpmAlgId::Aes, bits, TpmuSymMode::Null);
+    t.text("2.6 kind 2, Aes with Aes(128), Null: offset 0, value 6", written(&aes, 9), not_its_arm(0, 6, ""));
+    let details = TpmuSigScheme::Hash(TpmsSchemeHash { hash_alg: TpmAlgId::Sha256 });
+    let signing = TpmtSigScheme { scheme: TpmAlgId::Hmac, details };
+    t.text("2.6 kind 5, Hmac with Hash: offset 0, value 5", written(&signing, 9), not_its_arm(0, 5, ""));
+    let with_bits = cipher(TpmAlgId::Null, bits, TpmuSymMode::Null);
+    t.text("2.6 kind 2, Null with Aes(128): writes 0010", written(&with_bits, 9), (Ok(()), "0010".to_string()));
+    let with_mode = cipher(TpmAlgId::Null, TpmuSymKeyBits::Null, TpmuSymMode::Aes(TpmAlgId::Null));
+    t.text("2.6 kind 2, Null with mode Aes: writes 0010", written(&with_mode, 9), (Ok(()), "0010".to_string()));
+    let says = [with_bits.key_bits.matches_tag(TpmAlgId::Null), with_mode.mode.matches_tag(TpmAlgId::Null)];
+    t.text("2.6 and matches_tag(Null) says no to both", says, [false; 2]);
+    let scheme = TpmtKeyedhashScheme { scheme: TpmAlgId::Hmac, details: TpmuKeyedhashScheme::Null };
+    let parameters = TpmuPublicParms::KeyedHash(TpmsKeyedhashParms { scheme });
+    let area = TpmtPublic { object_type: TpmAlgId::KeyedHash, parameters, ..TpmtPublic::default() };
+    t.text("2.6 kind 11, unique Null: offset 0, value 8, ahead of the scheme", written(&area, 99), not_its_arm(0, 8, ""));
+}
+
+fn room(t: &mut Tally) {
+    let sha1 = hashed(TpmAlgId::Sha1, digest(20));
+    t.text("2.6 kind 1, Sha1, room 21: BufferOverflow, 2, 20, 19; 0004 is left", written(&sha1, 21), no_room(2, 20, 19, "0004"));
+    let hmac = TpmtSignature { sig_alg: TpmAlgId::Hmac, signature: TpmuSignature::Hmac(hashed(TpmAlgId::Sha256, TpmuHa::Null)) };
+    t.text("2.6 kind 10, Hmac(Sha256, Null), room 2: offset 2, value 11; 0005 is left", written(&hmac, 2), not_its_arm(2, 11, "0005"));
+    t.rebuilt("2.6 the same, room 0: BufferOverflow, offset 0", written(&hmac, 0), no_room(0, 2, 0, ""));
+    let mut space = [0; 8];
+    let mut writer = TpmWriter::new(&mut space);
+    let null = cipher(TpmAlgId::Null, TpmuSymKeyBits::Null, TpmuSymMode::Null);
+    let two = [null.marshal(&mut writer), null.marshal(&mut writer)];
+    t.text("2.6 the writer goes on where it stood", (two, hex(writer.as_bytes())), ([Ok(()); 2], "00100010".to_string()));
+    let wrong = hashed(TpmAlgId::Sha1, TpmuHa::Null).marshal(&mut writer);
+    t.text("2.6 and a refusal's offset is where it stood", wrong, Err(TpmError::VariantNotAvailable { offset: 4, value: 4 }));
+}
+
+fn owned(t: &mut Tally) {
+    let refused = Err(TpmError::TooManyItems { offset: 0, limit: 8, actual: 9 });
+    let mut full = TpmList::<TpmUint16, 8>::new();
+    let pushed: TpmResult<()> = (0..8_u16).try_for_each(|value| full.try_push(value.into()));
+    t.text("2.7 eight items are taken", pushed, Ok(()));
+    t.text("2.7 a ninth is refused when it is put in", full.try_push(TpmUint16::default()), refused);
+    let at_once = TpmList::<TpmUint16, 8>::new().try_extend_from_slice(&[TpmUint16::default(); 9]);
+    t.text("2.7 and nine at once", at_once, refused);
+    let eight = "00000008 0000 0001 0002 0003 0004 0005 0006 0007".replace(' ', "");
+    t.rebuilt("2.7 marshal writes the items that are there", written(&full, 99), (Ok(()), eight));
+    let null: &[u8] = &TpmuHa::Null;
+    t.text("2.7 Deref of TpmuHa::Null: an empty slice", null.len(), 0);
+    let place = |text| TpmtSymDef::unmarshal(&bytes(text)[1..]).map(|(record, _)| record);
+    let alike = place("ff 0006 0080 0043 ff") == place("00 0006 0080 0043");
+    t.text("2.7 two records that were read at different places compare as equal", alike, true);
+}
+
+fn sizes(t: &mut Tally) {
+    t.text("2.8 kind 1: TpmAlgId::SIZE + MAX_DIGEST_SIZE", TpmtHa::SIZE, TpmAlgId::SIZE + MAX_DIGEST_SIZE);
+    t.text("2.8 kind 2: twice TpmAlgId::SIZE and a number's", TpmtSymDef::SIZE, 2 * TpmAlgId::SIZE + TpmUint16::SIZE);
+    let eight = [
+        TpmtKdfScheme::SIZE, TpmtKeyedhashScheme::SIZE, TpmtSigScheme::SIZE, TpmtRsaScheme::SIZE, TpmtEccScheme::SIZE, TpmtRsaDecrypt::SIZE,
+        TpmtPublicParms::SIZE, TpmtSignature::SIZE,
+    ];
+    t.text("2.8 kinds 3 to 10: TpmAlgId::SIZE + TPM_MAX_COMMAND_SIZE", eight, [TpmAlgId::SIZE + TPM_MAX_COMMAND_SIZE; 8]);
+    t.text("2.8 kind 11: TPM_MAX_COMMAND_SIZE", TpmtPublic::SIZE, TPM_MAX_COMMAND_SIZE);
+    let three = TpmAlgId::SIZE + Tpm2bAuth::SIZE + Tpm2bDigest::SIZE;
+    t.text("2.8 kind 12: TPM_MAX_COMMAND_SIZE and three sizes more", TpmtSensitive::SIZE, TPM_MAX_COMMAND_SIZE + three);
+    t.text("2.8 kind 14: 4 + 8 times an item's SIZE", TpmlPcrSelection::SIZE, 4 + 8 * TpmsPcrSelection::SIZE);
+}
+
+fn main() {
+    let mut t = Tally::default();
+    for part in [lists, tails, places, settled, arms, wrong_arms, room, owned, sizes] {
+        part(&mut t);
+    }
+    println!("{} claims hold by the text, {} more with a rebuilt module, {} fail", t.text, t.rebuilt, t.failed);
+    std::process::exit(i32::from(t.failed > 0));
+}

@@ -1,0 +1,103 @@
+//! The differences that docs/DIFFERENCES.md lists, for reading. Whether an input belongs to one is decided by its bytes; both answers then have to
+//! be what that section says they are.
+
+use crate::answers::{Crates, Ours};
+
+const MAGIC: [u8; 4] = [0xff, 0x54, 0x43, 0x47];
+const QUOTE: u64 = 0x8018;
+/// The structure tags that the rebuilt `TpmSt` has besides the eight attestation types.
+const OTHER_TAGS: [u64; 10] = [0xc4, 0x8000, 0x8001, 0x8002, 0x8021, 0x8022, 0x8023, 0x8024, 0x8025, 0x8029];
+
+/// A fault of a rebuilt leaf, and its value.
+type Fault = (&'static str, u64);
+
+fn number(input: &[u8], at: usize, width: usize) -> Result<u64, Fault> {
+    let bytes = input.get(at..at + width).ok_or(("End", width as u64))?;
+    Ok(bytes.iter().fold(0, |value, byte| value << 8 | u64::from(*byte)))
+}
+
+fn attestation_type(kind: u32, input: &[u8]) -> Option<u64> {
+    if kind != 13 || !input.starts_with(&MAGIC) {
+        return None;
+    }
+    number(input, 4, 2).ok()
+}
+
+/// Where the arm of an attestation begins; or the first fault between its type and its arm.
+fn arm_place(input: &[u8]) -> Result<usize, Fault> {
+    let mut at = 6;
+    for limit in [66, 66] {
+        let length = number(input, at, 2)?;
+        if length > limit {
+            return Err(("Length", length));
+        }
+        at += 2 + length as usize;
+        if at > input.len() {
+            return Err(("End", length));
+        }
+    }
+    for width in [8, 4, 4] {
+        number(input, at, width)?;
+        at += width;
+    }
+    let safe = number(input, at, 1)?;
+    if safe > 1 {
+        return Err(("Value", safe));
+    }
+    number(input, at + 1, 8)?;
+    Ok(at + 9)
+}
+
+/// What we answer to an input of a class.
+enum Here {
+    /// Read, or refused for what an item or the field behind the list can have, at that place or behind it.
+    From(usize),
+    Refused { number: u64, place: usize, value: u64 },
+}
+
+/// A class of difference, and what each side has to answer to this input of it.
+pub struct Listed {
+    pub name: &'static str,
+    crates: (&'static str, &'static str, u64),
+    here: Here,
+}
+
+/// 2.1: the crate refuses the count for its capacity; we go on behind it.
+fn capacity(kind: u32, input: &[u8]) -> Option<Listed> {
+    let list = match attestation_type(kind, input) {
+        Some(QUOTE) => arm_place(input).ok()?,
+        _ if kind == 14 => 0,
+        _ => return None,
+    };
+    let count = number(input, list, 4).ok().filter(|count| (9..=16).contains(count))?;
+    Some(Listed { name: "2.1, a list of 9 to 16 items", crates: ("text", "TooManyItems", count), here: Here::From(list + 4) })
+}
+
+/// 2.5: we refuse the type where it stands; the crate at the first field behind it that has a fault, or in the union.
+fn other_type(kind: u32, input: &[u8]) -> Option<Listed> {
+    let value = attestation_type(kind, input).filter(|tag| OTHER_TAGS.contains(tag))?;
+    let crates = match arm_place(input) {
+        Ok(_) => ("text", "VariantNotAvailable", value),
+        Err((fault, of)) => ("rebuilt", fault, of),
+    };
+    let here = Here::Refused { number: 2, place: 4, value };
+    Some(Listed { name: "2.5, an attestation type outside the eight", crates, here })
+}
+
+/// The class that an input belongs to.
+pub fn class(kind: u32, input: &[u8]) -> Option<Listed> {
+    capacity(kind, input).or_else(|| other_type(kind, input))
+}
+
+impl Listed {
+    /// Whether both sides answered as they have to.
+    pub fn holds(&self, ours: &Ours, crates: &Crates) -> bool {
+        let here = match (&self.here, ours) {
+            (Here::From(_), Ours::Read { .. }) => true,
+            (Here::From(first), Ours::Refused { number, place, .. }) => matches!(number, 1 | 2 | 4) && place >= first,
+            (Here::Refused { number: n, place: p, value: v }, Ours::Refused { number, place, value }) => (n, p, v) == (number, place, value),
+            _ => false,
+        };
+        here && matches!(crates, Crates::Refused { who, name, value, .. } if (*who, *name, *value) == self.crates)
+    }
+}

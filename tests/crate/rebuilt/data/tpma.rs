@@ -1,0 +1,13 @@
+//! Rebuilt, not the crate's. Attributes: any number of the width (docs/FORMAT.md, section 7). Kinds 1 to 14 read `TpmaObject` alone; the others
+//! are items and fields of unions that would not compile without them, with Part 2's widths.
+
+use crate::tpm_attributes;
+
+tpm_attributes!(TpmaObject, u32, TpmUint32);
+tpm_attributes!(TpmaNv, u32, TpmUint32);
+tpm_attributes!(TpmaNvExp, u64, TpmUint64);
+tpm_attributes!(TpmaAlgorithm, u32, TpmUint32);
+tpm_attributes!(TpmaCc, u32, TpmUint32);
+tpm_attributes!(TpmaAct, u32, TpmUint32);
+// A command code: the text names the type and none of its values.
+tpm_attributes!(TpmCc, u32, TpmUint32);
