@@ -1,6 +1,6 @@
 """The cases of matches_tag, writing and asking by index: their frame, and how they are made.
 
-The frame is that of our program `calls` (crates/calls), which the crate's side (writing.rs) reads too.
+The frame is that of our program `calls` (tests/vectors/README.md has its bytes), which the crate's side (writing.rs) reads too.
 """
 
 from typing import NamedTuple

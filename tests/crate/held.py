@@ -199,7 +199,10 @@ class Room:
                     self.part(inner)
 
     def part(self, part):
-        self.structure(part) if isinstance(part, Structure) else self.put(part)
+        if isinstance(part, Structure):
+            self.structure(part)
+        else:
+            self.put(part)
 
 
 def judged(it, place, listed=ALGS):
@@ -280,7 +283,7 @@ class Held:
         return 'room' if room < size_of(self.record.parts)[0] else 'written'
 
     def ours(self, room):
-        """Our answer's words: `again HEX`, or number, place and value."""
+        """Our answer: `again`, or number, place and value."""
         try:
             size = judged(self.record, 0, ATTEST if self.kind == 13 else ALGS)
         except Refused as refusal:

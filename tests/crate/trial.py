@@ -28,7 +28,7 @@ TEXT = HERE / 'text'
 READING_CHANGES, WRITING_CHANGES = 100, 60
 # Of the sorts of input that are many, one in so many; of the others all.
 PART = {'sweep': 61, 'code': 5, 'bit': 3, 'random': 16}
-READING_CHUNKS, WRITING_CHUNKS = 16, 60
+READING_CHUNKS, WRITING_CHUNKS = 48, 60
 
 
 def fail(text):
@@ -57,10 +57,11 @@ class Reading:
             fail(f'the comparison of reading ended with {status}')
         return status != 0
 
-    def reports(self, program, work, mode='listed'):
+    def reports(self, program, work):
         crates = work / 'crates'
         for chunk in self.chunks:
-            if not answered(program, chunk / 'inputs', crates) or self.differs(mode, chunk, crates, chunk / 'ours'):
+            answer(program, chunk / 'inputs', crates)
+            if self.differs('listed', chunk, crates, chunk / 'ours'):
                 return True
         return False
 
@@ -80,8 +81,7 @@ class Writing:
     def reports(self, program, work):
         for made, stream, ours in self.chunks:
             (work / 'cases').write_bytes(stream)
-            if not answered(program, work / 'cases', work / 'crates'):
-                return True
+            answer(program, work / 'cases', work / 'crates')
             if writing.tally(made, (work / 'crates').read_text(encoding='utf-8'), ours).new:
                 return True
         return False
@@ -99,13 +99,14 @@ def framed(line):
     return (1 + len(data) // 2).to_bytes(2, 'big') + bytes([int(kind)]) + bytes.fromhex(data)
 
 
-def answered(program, given, got):
-    """False if it panicked, which is a report too."""
+class Ended(Exception):
+    """A variant did not answer all, which shows nothing of a comparison."""
+
+
+def answer(program, given, got):
     with open(given, 'rb') as stream, open(got, 'wb') as out:
-        status = subprocess.run([program], stdin=stream, stdout=out, stderr=subprocess.DEVNULL).returncode
-    if status not in (0, 101):
-        fail(f'{program} ended with {status}')
-    return status == 0
+        if subprocess.run([program], stdin=stream, stdout=out, stderr=subprocess.DEVNULL).returncode:
+            raise Ended
 
 
 def is_built(text, out, program):
@@ -113,7 +114,7 @@ def is_built(text, out, program):
 
 
 def tried(change, work, sides):
-    """What reported the change: the comparison's name, `not built`, or `MISSED`."""
+    """What reported the change: the comparison's name; else `not built`, `ended early`, or `MISSED`."""
     shutil.copytree(TEXT, work / 'text')
     (work / 'text' / change.path).write_text(change.text, encoding='utf-8')
     names = sorted(sides, key=lambda name: name != change.first)
@@ -124,6 +125,8 @@ def tried(change, work, sides):
             if sides[name].reports(work / 'built' / name, work):
                 return name
         return 'MISSED'
+    except Ended:
+        return 'ended early'
     finally:
         shutil.rmtree(work)
 
@@ -150,7 +153,8 @@ def try_our_reading(reading, work, sixteen):
     """Against lists of 16: with these no difference is left that would excuse an answer."""
     r, missed = random.Random(3), 0
     for chunk in reading.chunks:
-        if not answered(sixteen, chunk / 'inputs', chunk / 'sixteen') or reading.differs('same', chunk, chunk / 'sixteen', chunk / 'ours'):
+        answer(sixteen, chunk / 'inputs', chunk / 'sixteen')
+        if reading.differs('same', chunk, chunk / 'sixteen', chunk / 'ours'):
             fail('reading with lists of 16 reports something though nothing is changed')
     for _ in range(READING_CHANGES):
         chunk = r.choice(reading.chunks)
@@ -168,7 +172,7 @@ def try_our_writing(written, program, work):
     for _ in range(WRITING_CHANGES):
         made, stream, ours = r.choice(written.chunks)
         (work / 'cases').write_bytes(stream)
-        answered(program, work / 'cases', work / 'crates')
+        answer(program, work / 'cases', work / 'crates')
         other, what = changed(r, ours.encode(), lambda line, word: True)
         if not writing.tally(made, (work / 'crates').read_text(encoding='utf-8'), other.decode()).new:
             missed += 1

@@ -1,11 +1,10 @@
 #!/usr/bin/env python3
 """Compares matches_tag, writing and asking by index with the crate's, on records whose selector was replaced.
 
-    writing.py FOLDER OURS...
+    writing.py FOLDER CRATE GATE OURS...
 
-FOLDER has the program of writing.rs, as published/writing, and gets the cases and answers; OURS is the command that runs our program `calls`.
-Compared are cases made here, and then the gate's own cases and answers (crates/calls). Ends with 0 only if every answer was alike or differs
-as docs/DIFFERENCES.md says.
+FOLDER is for the cases and answers, CRATE the program of writing.rs, GATE the folder with the gate's own cases and answers (crates/calls), OURS the
+command that runs our program `calls`. Ends with 0 only if every answer was alike or differs as docs/DIFFERENCES.md says.
 """
 
 import random
@@ -18,7 +17,6 @@ from pathlib import Path
 import cases
 from held import ATTEST, CRATE_CAPACITY, INSIDE, TAGS, Held, Reader
 
-GATE = Path(__file__).resolve().parents[2] / 'crates/calls'
 UNIONS = {2: 2, 11: 2, 23: 2, 24: 2, 14: 0}  # of those whose selector is replaced; the others have one
 NUMBERS = {'UnexpectedEnd': 1, 'End': 1, 'Code': 2, 'VariantNotAvailable': 3, 'Length': 4, 'TooManyItems': 5, 'Value': 6, 'TrailingData': 11}
 TOLD = re.compile(r'm(?P<flags>[01]*) (?:again (?P<put>text|rebuilt) (?P<written>[0-9a-f]+)'
@@ -289,13 +287,11 @@ def compare_gate(crate, gate):
     return well
 
 
-def main(folder, *ours):
-    folder = Path(folder)
-    crate = folder / 'published/writing'
+def main(folder, crate, gate, *ours):
     print('Cases made here')
-    well = compare_made(folder, crate, list(ours))
+    well = compare_made(Path(folder), crate, list(ours))
     print('The gate\'s own cases')
-    well = compare_gate(crate, GATE) and well
+    well = compare_gate(crate, Path(gate)) and well
     return 0 if well else 1
 
 
