@@ -211,7 +211,7 @@ def main(folder, ours):
     shutil.rmtree(work, ignore_errors=True)
     work.mkdir()
     sides = {'reading': Reading(folder, work, ours), 'writing': Writing(folder)}
-    print(f'{sides["reading"].size:,} inputs, {sides["writing"].size:,} cases', flush=True)
+    print(f'{sides["reading"].size} inputs, {sides["writing"].size} cases', flush=True)
     for name, side in sides.items():
         if not is_built(TEXT, work / name, name):
             fail(f'{name} is not built')
