@@ -16,7 +16,7 @@ use tpm2_protocol::{
 };
 
 const TEXT: char = 't';
-const REBUILT: char = 'r';
+pub const REBUILT: char = 'r';
 
 #[derive(Default)]
 pub struct Lines {
@@ -24,8 +24,8 @@ pub struct Lines {
     pub text: String,
     /// A letter for each field.
     pub who: String,
-    /// What stands in each byte field (docs/FORMAT.md, section 10): a list is one, from its count to its last item.
-    pub byte_fields: Vec<Vec<u8>>,
+    /// Who puts each byte field there, and what stands in it (docs/FORMAT.md, section 10): a list is one, from its count to its last item.
+    pub byte_fields: Vec<(char, Vec<u8>)>,
     /// The items of the record's list.
     pub items: Vec<Vec<u8>>,
     place: usize,
@@ -47,7 +47,7 @@ impl Lines {
     fn bytes(&mut self, bytes: &[u8]) {
         let hex = if bytes.is_empty() { "-".to_string() } else { hex(bytes) };
         self.line(bytes.len(), "bytes", format_args!("{hex}"));
-        self.byte_fields.push(bytes.to_vec());
+        self.byte_fields.push((self.by.expect("a field is put there by a structure"), bytes.to_vec()));
     }
     /// What `put` puts there, `by` puts there, but for what is inside a nearer structure.
     fn under(&mut self, by: char, put: impl FnOnce(&mut Self)) {
@@ -109,7 +109,7 @@ impl<T: Fields + TpmMarshal + Copy, const N: usize> Fields for TpmList<T, N> {
             items.iter().for_each(|item| item.list(out));
         });
         out.byte_fields.truncate(ahead);
-        out.byte_fields.push(written(self));
+        out.byte_fields.push((TEXT, written(self)));
         out.items = items.iter().map(written).collect();
     }
 }

@@ -1,0 +1,154 @@
+"""The cases of matches_tag, writing and asking by index: their frame, and how they are made.
+
+The frame is that of our program `calls` (tests/vectors/README.md has its bytes), which the crate's side (writing.rs) reads too.
+"""
+
+from typing import NamedTuple
+
+from held import CRATE_CAPACITY, INSIDE, TAGS, Held
+from inputs import ALGS, Maker, be
+
+ENOUGH = 4096
+NO_INDEX = 0xFFFF
+HEAD = 14
+
+
+class Case(NamedTuple):
+    kind: int
+    selector: int
+    room: int
+    index: int
+    first_at: int
+    second_at: int
+    source: int  # 0: the records are the source too
+    records: bytes
+    rest: bytes = b''  # the source, if it is another
+
+    @property
+    def first(self):
+        return self.records[self.first_at:]
+
+    @property
+    def second(self):
+        return self.records[self.second_at:]
+
+    @property
+    def has_index(self):
+        return self.index != NO_INDEX
+
+    def framed(self):
+        head = be(self.kind, 1) + be(self.selector, 2) + be(self.room, 2) + be(self.index, 2) + be(self.first_at, 2)
+        case = head + be(self.second_at, 2) + be(self.source, 1) + be(len(self.records), 2) + self.records + self.rest
+        return be(len(case), 2) + case
+
+    def __str__(self):
+        asked = f' index {self.index}' if self.has_index else ''
+        places = f' at {self.first_at}' + (f' and {self.second_at}' if self.kind in (2, 11) else '')
+        return f'kind {self.kind} selector {self.selector:04x} room {self.room}{asked}{places} {self.records.hex()}'
+
+
+def unframed(stream):
+    """The cases of a file of them."""
+    at = 0
+    while at < len(stream):
+        case = stream[at + 2:at + 2 + int.from_bytes(stream[at:at + 2], 'big')]
+        numbers = [int.from_bytes(case[i:i + 2], 'big') for i in range(1, 10, 2)]
+        size = int.from_bytes(case[12:HEAD], 'big')
+        yield Case(case[0], *numbers, case[11], case[HEAD:HEAD + size], case[HEAD + size:])
+        at += 2 + len(case)
+
+
+def own_selector(kind, data):
+    at = 4 if kind == 13 else 0
+    return int.from_bytes(data[at:at + 2], 'big') if kind != 14 else 0
+
+
+def items_of(kind, data):
+    return Held(kind, own_selector(kind, data), data, data).items() if kind in (13, 14) else None
+
+
+def records(maker, kind, each):
+    """Legal records of the kind: `each` for each of its selectors, with no more items than the crate has room for."""
+    found = {}
+    for _ in range(4000):
+        data = maker.record(kind)
+        held = found.setdefault(own_selector(kind, data), [])
+        if len(held) < each and (items_of(kind, data) or 0) <= CRATE_CAPACITY:
+            held.append(data)
+    return found
+
+
+def rooms(r, size):
+    """Enough, just enough, one too few, less."""
+    return {ENOUGH, size, max(0, size - 1), 0, r.randrange(size + 1), max(0, size - r.randrange(1, 5))}
+
+
+def placed(r, kind, selector, room, first, second=b'', index=NO_INDEX):
+    """A case; one in three has bytes ahead of the first record, and one in three has some behind it."""
+    ahead = r.randbytes(r.choice((0, 0, r.randrange(1, 9))))
+    behind = r.randbytes(r.choice((0, 0, r.randrange(1, 9))))
+    between = ahead + first + behind
+    return Case(kind, selector, room, index, len(ahead), len(between) if second else 0, 0, between + second)
+
+
+def relabelled(r, maker):
+    """Every arm under every code; of kinds 2 and 11 with the last union of each other arm."""
+    for kind in range(1, 14):
+        found = records(maker, kind, 4 if kind in (9, 11) else 3)
+        seconds = [held[0] for held in found.values()] if kind in (2, 11) else [b'']
+        for first in (data for held in found.values() for data in held):
+            for second in seconds:
+                for code in TAGS if kind == 13 else ALGS:
+                    for room in sorted(rooms(r, len(first))):
+                        yield placed(r, kind, code, room, first, second)
+
+
+def relabelled_inside(r, maker):
+    """Every arm further in under every code."""
+    for kind, (outer, arm, _) in INSIDE.items():
+        for data in with_arm(maker, outer, arm, 60):
+            for code in ALGS:
+                for room in sorted({ENOUGH, r.choice(sorted(rooms(r, len(data))))}):
+                    yield placed(r, kind, code, room, data)
+
+
+def with_arm(maker, kind, arm, count):
+    found = []
+    while len(found) < count:
+        data = maker.record(kind)
+        if Held(kind, own_selector(kind, data), data, data).record.unions()[0].arm == arm:
+            found.append(data)
+    return found
+
+
+def indexed(r, maker):
+    """Every byte field and every item, up to one past the last; under the record's own selector and under others."""
+    for kind in range(1, 15):
+        found = records(maker, kind, 40 if kind == 14 else 12)
+        every = [data for held in found.values() for data in held]
+        for first in every:
+            second = r.choice(every) if kind in (2, 11) else b''
+            for index in range(max(4, items_of(kind, first) or 0) + 1):
+                for code in (own_selector(kind, first), r.choice(TAGS if kind == 13 else ALGS)):
+                    yield placed(r, kind, code, r.choice((ENOUGH, len(first), 0)), first, second, index)
+    for kind, (outer, arm, _) in INSIDE.items():
+        for data in with_arm(maker, outer, arm, 20):
+            yield placed(r, kind, r.choice(ALGS), ENOUGH, data, b'', r.randrange(2))
+
+
+def lists(r, maker):
+    """Kind 14 written; and lists that are longer than the crate's."""
+    for _ in range(400):
+        data = maker.record(14)
+        for room in sorted(rooms(r, len(data))):
+            yield placed(r, 14, 0, room, data)
+    for _ in range(400):
+        data = maker.record(13)
+        if (items_of(13, data) or 0) > CRATE_CAPACITY:
+            yield placed(r, 13, own_selector(13, data), ENOUGH, data)
+
+
+def made(r):
+    maker = Maker(r)
+    for sort in (relabelled, relabelled_inside, indexed, lists):
+        yield from sort(r, maker)

@@ -1,0 +1,161 @@
+"""Single changes of the published text, each of which a comparison has to report.
+
+Not tried is what nothing here compares: the fields `limit` and `available` of an error, the calls of 2.9 in docs/DIFFERENCES.md, and
+what can only come up on a 16-bit machine or behind another test that says the same.
+"""
+
+import re
+from typing import NamedTuple
+
+UNION = re.compile(r'^tpmu_view!\(.*?^\}\);', re.M | re.S)
+MARSHAL = re.compile(r'^impl TpmMarshal for (\w+) \{.*?^\}', re.M | re.S)
+NOT_OURS = ('TpmuCapabilities', 'TpmuNvPublic2')
+
+# What is read. Each is made wherever the old text stands, one at a time.
+READING = {
+    'data/mod.rs': [
+        ('Tpm2bAuth, MAX_DIGEST_SIZE', 'Tpm2bAuth, MAX_SYM_KEY_BYTES'),
+        ('Tpm2bDigest, MAX_DIGEST_SIZE', 'Tpm2bDigest, MAX_ECC_KEY_BYTES'),
+        ('Tpm2bEccParameter, MAX_ECC_KEY_BYTES', 'Tpm2bEccParameter, MAX_DIGEST_SIZE'),
+        ('Tpm2bMaxNvBuffer, MAX_NV_BUFFER_SIZE', 'Tpm2bMaxNvBuffer, MAX_RSA_KEY_BYTES'),
+        ('Tpm2bName, { MAX_DIGEST_SIZE + 2 }', 'Tpm2bName, { MAX_DIGEST_SIZE + 1 }'),
+        ('Tpm2bPublicKeyRsa, MAX_RSA_KEY_BYTES', 'Tpm2bPublicKeyRsa, MAX_SENSITIVE_DATA'),
+        ('Tpm2bSymKey, MAX_SYM_KEY_BYTES', 'Tpm2bSymKey, MAX_DIGEST_SIZE'),
+        ('Tpm2bData, MAX_DATA_SIZE', 'Tpm2bData, MAX_DIGEST_SIZE'),
+        ('TpmlPcrSelection, TpmsPcrSelection, 8', 'TpmlPcrSelection, TpmsPcrSelection, 7'),
+        ('TpmlPcrSelection, TpmsPcrSelection, 8', 'TpmlPcrSelection, TpmsPcrSelection, 9'),
+    ],
+    'data/tpmu.rs': [
+        ('Some(20)', 'Some(21)'), ('Some(24)', 'Some(20)'), ('Some(32)', 'Some(24)'), ('Some(48)', 'Some(64)'), ('Some(64)', 'Some(48)'),
+        ('if tag == TpmAlgId::Null {', 'if tag == TpmAlgId::Rsa {'),
+        ('if buf.len() < digest_size {', 'if buf.len() <= digest_size {'),
+        ('needed: digest_size', 'needed: digest_size + 1'),
+        ('value: u64::from(tag.value())', 'value: u64::from(tag.value()) + 1'),
+    ],
+    'data/tpmt.rs': [
+        ('        if algorithm == TpmAlgId::Null {\n            return Ok((\n', '        if algorithm == TpmAlgId::Xor {\n            return Ok((\n'),
+        ('        let (seed_value, buffer) = Tpm2bDigest::unmarshal(buffer)?;', '        let (seed_value, _) = Tpm2bDigest::unmarshal(buffer)?;'),
+        ('TpmuPublicId::unmarshal_tagged(object_type, buffer)', 'TpmuPublicId::unmarshal_tagged(name_alg, buffer)'),
+        ('TpmuSymMode::unmarshal_tagged(algorithm, buffer)', 'TpmuSymMode::unmarshal_tagged(TpmAlgId::Aes, buffer)'),
+        ('        let (name_alg, buffer) = TpmAlgId::unmarshal(buffer)?;',
+         '        let (_, buffer) = TpmAlgId::unmarshal(buffer)?; let name_alg = TpmAlgId::Null;'),
+        ('                        rest,\n', '                        &rest[rest.len().min(1)..],\n'),
+        ('e.rebase(offset)', 'e.rebase(offset + 1)'),
+        ('            + self.unique.len()', ''), ('+ self.key_bits.len() + self.mode.len()', '+ self.key_bits.len()'),
+        ('            + self.sensitive.len()', ''),
+    ],
+    'basic/list.rs': [
+        ('        if count > CAPACITY {', '        if count >= CAPACITY {'), ('        if count > CAPACITY {', '        if count > CAPACITY + 1 {'),
+        ('                actual: count,', '                actual: count + 1,'),
+        ('            cursor = tail;\n        }\n\n        Ok((list, cursor))',
+         '            if list.len < 2 { cursor = tail; }\n        }\n\n        Ok((list, cursor))'),
+        ('            let (item, tail) = T::unmarshal(cursor)?;', '            let Ok((item, tail)) = T::unmarshal(cursor) else { break };'),
+        ('        self.len += 1;', '        self.len += usize::from(self.len < 3);'),
+        ('T::SIZE * CAPACITY', 'T::SIZE * 2'),
+        ('if item_count > CAPACITY {', 'if item_count >= CAPACITY {'), ('actual: item_count', 'actual: item_count + 1'),
+        ('needed: TPML_COUNT_LEN,', 'needed: TPML_COUNT_LEN + 1,'),
+        ('if buf.len() > wire_len {', 'if buf.len() > wire_len + 1 {'),
+        ('actual: buf.len() - wire_len,', 'actual: buf.len(),'),
+    ],
+}
+
+# What is written, and matches_tag.
+WRITING = {
+    'lib.rs': [
+        ('if end > self.buffer.len() {', 'if end >= self.buffer.len() {'),
+        ('self.buffer[self.cursor..end].copy_from_slice(bytes);', ''),
+        ('self.cursor = end;', 'self.cursor = end; if end < self.buffer.len() { self.buffer[end] = 0; }'),
+        ('offset: self.cursor,\n                needed: bytes.len(),\n                available: self', 'offset: 0, needed: bytes.len(), available: self'),
+        ('needed: bytes.len(),\n                available: self', 'needed: bytes.len() + 1, available: self'),
+        ('&self.buffer[..self.cursor]', '&self.buffer[..self.cursor / 2]'),
+    ],
+    'data/tpmu.rs': [
+        ('(Self::$variant(_), $($tag)|+) => true', '(Self::$variant(_), $($tag)|+) => false'),
+        ('(Self::$null_variant, $($null_tag)|+) => true', '(Self::$null_variant, $($null_tag)|+) => false'),
+        ('_ => false,', '_ => true,'),
+        ('(Self::Null, TpmAlgId::Null) => true', '(Self::Null, TpmAlgId::Null) => false'),
+        ('digest.deref().len() == size', 'digest.deref().len() >= size'),
+        ('digest_size(tag).is_some_and(|size| digest.deref().len() == size)', '!digest.deref().is_empty()'),
+        ('Self::Digest(d) => writer.write_bytes(d)', 'Self::Digest(d) => writer.write_bytes(&d[1..])'),
+        ('Self::Digest(d) => d.deref().len()', 'Self::Digest(d) => d.deref().len() + 2'),
+    ],
+    'data/tpmt.rs': [
+        ('if !self.$value_field.matches_tag(self.$tag_field) {', 'if false {'),
+        ('value: u64::from(self.$tag_field.value()),', 'value: u64::from(self.$tag_field.value()) + 1,'),
+        ('offset: writer.len(),', 'offset: writer.len() + 1,'),
+        ('$crate::TpmMarshal::marshal(&self.$tag_field, writer)?;', ''),
+        ('$crate::TpmMarshal::marshal(&self.$value_field, writer)', 'Ok(())'),
+        ('if !self.parameters.matches_tag(self.object_type)\n            || !self.unique', 'if !self.unique'),
+        ('            || !self.unique.matches_tag(self.object_type)\n', ''),
+        ('value: u64::from(self.object_type.value()),', 'value: u64::from(self.name_alg.value()),'),
+        ('self.object_type.marshal(writer)?;', ''), ('self.name_alg.marshal(writer)?;', ''), ('self.object_attributes.marshal(writer)?;', ''),
+        ('self.auth_policy.marshal(writer)?;', ''), ('self.parameters.marshal(writer)?;', ''), ('self.unique.marshal(writer)', 'Ok(())'),
+        ('if !self.sensitive.matches_tag(self.sensitive_type) {', 'if false {'),
+        ('value: u64::from(self.sensitive_type.value()),', 'value: 0,'),
+        ('self.sensitive_type.marshal(writer)?;', ''), ('self.auth_value.marshal(writer)?;', ''), ('self.seed_value.marshal(writer)?;', ''),
+        ('self.sensitive.marshal(writer)', 'Ok(())'),
+        ('if self.algorithm != TpmAlgId::Null\n            && (', 'if true && ('),
+        ('(!self.key_bits.matches_tag(self.algorithm)\n                || !self.mode', '(!self.mode'),
+        ('\n                || !self.mode.matches_tag(self.algorithm))', ')'),
+        ('value: u64::from(self.algorithm.value()),', 'value: 0,'),
+        ('        if self.algorithm != TpmAlgId::Null {', '        if true {'),
+        ('        if self.algorithm == TpmAlgId::Null {', '        if false {'),
+        ('self.key_bits.marshal(writer)?;', ''), ('self.mode.marshal(writer)?;', ''), ('self.algorithm.marshal(writer)?;', ''),
+    ],
+    'basic/list.rs': [
+        ('        TpmMarshal::marshal(&len, writer)?;\n', ''),
+        ('        for item in &**self {', '        for item in self.iter().take(2) {'),
+    ],
+}
+
+
+class Change(NamedTuple):
+    path: str
+    what: str
+    text: str  # of the whole file
+    first: str  # the comparison that is tried first
+
+
+def replaced(path, text, pairs, first):
+    for old, new in pairs:
+        count = text.count(old)
+        if not count:
+            raise SystemExit(f'{path} has no {old!r}')
+        at = -1
+        for turn in range(count):
+            at = text.index(old, at + 1)
+            what = f'{old.strip()!r} is {new.strip()!r} ({turn + 1} of {count})'
+            yield Change(path, what, text[:at] + new + text[at + len(old):], first)
+
+
+def selectors(path, text):
+    """Each selector of each union's table replaced by a code that has no arm there."""
+    for table in UNION.finditer(text):
+        union = table.group().split(',')[1].strip()
+        if union in NOT_OURS:
+            continue
+        for hit in re.finditer(r'(?<=[:|] )Tpm\w+::\w+|(?<=\|)Tpm\w+::\w+', table.group()):
+            at = table.start() + hit.start()
+            other = 'TpmSt::FuManifest' if hit.group().startswith('TpmSt') else 'TpmAlgId::Cmac'
+            yield Change(path, f'{union}: {hit.group()} is {other}', text[:at] + other + text[at + len(hit.group()):], 'reading')
+
+
+def arms(path, text):
+    """Each arm of each union is not written."""
+    for block in MARSHAL.finditer(text):
+        if block[1] in NOT_OURS:
+            continue
+        for hit in re.finditer(r'\b(\w+)\.marshal\(writer\)', block.group()):
+            at, end = block.start() + hit.start(), block.start() + hit.end()
+            nothing = f'{{ let _ = {hit[1]}; Ok(()) }}'
+            yield Change(path, f'{block[1]}: {hit.group()} is {nothing} ({hit.start()})', text[:at] + nothing + text[end:], 'writing')
+
+
+def changes(folder):
+    for first, files in (('reading', READING), ('writing', WRITING)):
+        for path, pairs in files.items():
+            yield from replaced(path, (folder / path).read_text(encoding='utf-8'), pairs, first)
+    path = 'data/tpmu.rs'
+    text = (folder / path).read_text(encoding='utf-8')
+    yield from selectors(path, text)
+    yield from arms(path, text)
