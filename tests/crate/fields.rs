@@ -1,9 +1,9 @@
 //! The fields of an owned record in wire order, as the lines that our listing has: place, size, word, value. An arm is told by the union's
 //! variant, not by its selector.
 //!
-//! For each line it is kept who puts the field there: `t`, a structure, union or list of the text, or `r`, a rebuilt structure. It is the nearest
-//! one that counts: the algorithm of an RSA key's cipher is put there by `TpmtSymDef`, which is the text's, though `TpmsRsaParms` has the
-//! cipher. (A field's own width, list of codes or limit is always a rebuilt module's.)
+//! For each line it is kept who puts the field there: `t` if every structure, union and list around it is the text's, and else `r`. The cipher of
+//! an RSA key is laid out by `TpmtSymDef`, which is the text's; but that a cipher stands there `TpmsRsaParms` says, which is rebuilt. So it is `r`.
+//! (A field's own width, list of codes or limit is always a rebuilt module's.)
 #![allow(dead_code)] // each program uses a part of it
 
 use crate::words::hex;
@@ -49,9 +49,12 @@ impl Lines {
         self.line(bytes.len(), "bytes", format_args!("{hex}"));
         self.byte_fields.push((self.by.expect("a field is put there by a structure"), bytes.to_vec()));
     }
-    /// What `put` puts there, `by` puts there, but for what is inside a nearer structure.
+    /// What `put` puts there, `by` puts there; but all that is inside a rebuilt structure is rebuilt.
     fn under(&mut self, by: char, put: impl FnOnce(&mut Self)) {
-        let before = self.by.replace(by);
+        let before = self.by;
+        if before != Some(REBUILT) {
+            self.by = Some(by);
+        }
         put(self);
         self.by = before;
     }

@@ -1,225 +1,248 @@
 // A selector further in that is replaced, or a part that no reader would make: kinds 21 to 29 of a case. Another arm than the one that a
 // case is about is a kind that there is not.
-use crate::areas::tpms_attest_asked;
-use crate::areas::tpmt_public_parms_asked;
-use crate::areas::tpmt_sensitive_asked;
-use crate::areas::tpmt_signature_asked;
+use crate::asked::tpms_attest_asked;
+use crate::asked::tpmt_public_parms_asked;
+use crate::asked::tpmt_sensitive_asked;
+use crate::asked::tpmt_signature_asked;
 use crate::case::Case;
-use crate::said::say_match;
 use crate::said::say_refusal;
+use crate::under::tpmt_ecc_scheme_under;
+use crate::under::tpmt_ha_under;
+use crate::under::tpmt_kdf_scheme_under;
+use crate::under::tpmt_keyedhash_scheme_under;
+use crate::under::tpmt_rsa_scheme_under;
+use crate::under::tpmt_sym_def_under;
 use attest::attestation::TpmsAttest;
 use attest::attestation::TpmsAttestRead;
-use ciphers::tpmt::TpmtSymDef;
+use ciphers::tpmt::TpmtHa;
+use ciphers::tpmt::TpmtHaRead;
 use codes::TpmAlgId;
+use codes::registry;
+use codes::uint::Uint16Read;
+use codes::uint::uint16;
 use faults::Refusal;
 use parameters::tpms::TpmsEccParms;
+use parameters::tpms::TpmsEccParmsRead;
 use parameters::tpms::TpmsKeyedhashParms;
+use parameters::tpms::TpmsKeyedhashParmsRead;
 use parameters::tpms::TpmsRsaParms;
+use parameters::tpms::TpmsRsaParmsRead;
 use parameters::tpms::TpmsSymcipherParms;
+use parameters::tpms::TpmsSymcipherParmsRead;
 use parameters::tpmt::TpmtPublicParms;
-use parameters::tpmt::TpmtPublicParmsRead;
 use parameters::tpmu::TpmuPublicParms;
-use schemes::tpmt::TpmtEccScheme;
-use schemes::tpmt::TpmtKdfScheme;
-use schemes::tpmt::TpmtKeyedhashScheme;
-use schemes::tpmt::TpmtRsaScheme;
+use records::kind::record_end;
+use records::tail::tail_of;
 use sensitive::tpmt::TpmtSensitive;
 use sensitive::tpmt::TpmtSensitiveRead;
 use signatures::tpmt::TpmtSignature;
-use signatures::tpmt::TpmtSignatureRead;
 use signatures::tpmu::TpmuSignature;
+use wire::measure::Measure;
 use wire::span::Span;
 
 pub fn say_no_such_case(kind: u8) {
     say_refusal(kind, Refusal::bad_kind(kind as u64));
 }
 
-// 21: the hash algorithm of an Hmac signature.
-pub fn hmac_digest(case: Case, s: &[u8], src: &[u8], out: &mut [u8]) {
-    match TpmtSignature::unmarshal(s, case.first) {
-        TpmtSignatureRead::Found(x, end) => {
-            let held = x.signature;
-            match held {
-                TpmuSignature::Hmac(h) => {
-                    let tag = TpmAlgId(case.selector);
-                    let digest = h.digest;
-                    let mut other = h;
-                    other.hash_alg = tag;
-                    let sig_alg = x.sig_alg;
-                    let y = TpmtSignature {
-                        sig_alg: sig_alg,
-                        signature: TpmuSignature::Hmac(other),
-                    };
-                    say_match(digest.matches_tag(tag));
-                    tpmt_signature_asked(case, y, end, s, src, out);
-                }
-                _ => say_no_such_case(case.kind),
-            }
-        }
-        TpmtSignatureRead::No(f) => say_refusal(case.kind, f),
+// A record of that kind, which holds another arm if it is read at all.
+fn say_other_arm(case: Case, kind: u8, s: &[u8]) {
+    match record_end(kind, s, case.first) {
+        Measure::Size(_) => say_no_such_case(case.kind),
+        Measure::No(f) => say_refusal(case.kind, f),
     }
 }
 
-// A cipher under the case's selector.
-fn cipher(case: Case, x: TpmtSymDef) -> TpmtSymDef {
-    let tag = TpmAlgId(case.selector);
-    let key_bits = x.key_bits;
-    let mode = x.mode;
-    say_match(key_bits.matches_tag(tag));
-    say_match(mode.matches_tag(tag));
-    let mut y = x;
-    y.algorithm = tag;
-    y
+// 21: the hash algorithm of an Hmac signature.
+fn hmac(case: Case, at: usize, s: &[u8], src: &[u8], out: &mut [u8]) {
+    match TpmtHa::unmarshal(s, at) {
+        TpmtHaRead::Found(x, end) => {
+            let y = TpmtSignature {
+                sig_alg: TpmAlgId(registry::HMAC),
+                signature: TpmuSignature::Hmac(tpmt_ha_under(case, x)),
+            };
+            tpmt_signature_asked(case, y, tail_of(s, end), src, out)
+        }
+        TpmtHaRead::No(f) => say_refusal(case.kind, f),
+    }
 }
 
-fn keyedhash_scheme(case: Case, x: TpmtKeyedhashScheme) -> TpmtKeyedhashScheme {
-    let tag = TpmAlgId(case.selector);
-    let details = x.details;
-    say_match(details.matches_tag(tag));
-    let mut y = x;
-    y.scheme = tag;
-    y
+fn keyedhash_under(case: Case, p: TpmsKeyedhashParms) -> TpmtPublicParms {
+    let scheme = p.scheme;
+    let other = tpmt_keyedhash_scheme_under(case, scheme);
+    TpmtPublicParms {
+        object_type: TpmAlgId(registry::KEYED_HASH),
+        parameters: TpmuPublicParms::KeyedHash(TpmsKeyedhashParms { scheme: other }),
+    }
 }
 
-fn rsa_scheme(case: Case, x: TpmtRsaScheme) -> TpmtRsaScheme {
-    let tag = TpmAlgId(case.selector);
-    let details = x.details;
-    say_match(details.matches_tag(tag));
-    let mut y = x;
-    y.scheme = tag;
-    y
+// 22: the scheme of a keyed hash.
+fn keyedhash(case: Case, at: usize, s: &[u8], src: &[u8], out: &mut [u8]) {
+    match TpmsKeyedhashParms::unmarshal(s, at) {
+        TpmsKeyedhashParmsRead::Found(p, end) => tpmt_public_parms_asked(
+            case,
+            keyedhash_under(case, p),
+            tail_of(s, end),
+            src,
+            out,
+        ),
+        TpmsKeyedhashParmsRead::No(f) => say_refusal(case.kind, f),
+    }
 }
 
-fn ecc_scheme(case: Case, x: TpmtEccScheme) -> TpmtEccScheme {
-    let tag = TpmAlgId(case.selector);
-    let details = x.details;
-    say_match(details.matches_tag(tag));
-    let mut y = x;
-    y.scheme = tag;
-    y
+fn symcipher_under(case: Case, p: TpmsSymcipherParms) -> TpmtPublicParms {
+    let sym = p.sym;
+    let other = tpmt_sym_def_under(case, sym);
+    TpmtPublicParms {
+        object_type: TpmAlgId(registry::SYM_CIPHER),
+        parameters: TpmuPublicParms::SymCipher(TpmsSymcipherParms { sym: other }),
+    }
 }
 
-fn kdf_scheme(case: Case, x: TpmtKdfScheme) -> TpmtKdfScheme {
-    let tag = TpmAlgId(case.selector);
-    let details = x.details;
-    say_match(details.matches_tag(tag));
-    let mut y = x;
-    y.scheme = tag;
-    y
+// 23: the cipher of a symmetric object.
+fn symcipher(case: Case, at: usize, s: &[u8], src: &[u8], out: &mut [u8]) {
+    match TpmsSymcipherParms::unmarshal(s, at) {
+        TpmsSymcipherParmsRead::Found(p, end) => tpmt_public_parms_asked(
+            case,
+            symcipher_under(case, p),
+            tail_of(s, end),
+            src,
+            out,
+        ),
+        TpmsSymcipherParmsRead::No(f) => say_refusal(case.kind, f),
+    }
 }
 
-// 24: its cipher. 25: its scheme.
-fn rsa_parms(case: Case, p: TpmsRsaParms) -> TpmsRsaParms {
+fn rsa_under(case: Case, p: TpmsRsaParms) -> TpmtPublicParms {
     let mut y = p;
     if case.kind == 24 {
         let symmetric = p.symmetric;
-        y.symmetric = cipher(case, symmetric);
+        y.symmetric = tpmt_sym_def_under(case, symmetric);
     } else {
         let scheme = p.scheme;
-        y.scheme = rsa_scheme(case, scheme);
+        y.scheme = tpmt_rsa_scheme_under(case, scheme);
     }
-    y
+    TpmtPublicParms {
+        object_type: TpmAlgId(registry::RSA),
+        parameters: TpmuPublicParms::Rsa(y),
+    }
 }
 
-// 26: its scheme. 27: its key derivation.
-fn ecc_parms(case: Case, p: TpmsEccParms) -> TpmsEccParms {
+// 24: the cipher of an RSA key. 25: its scheme.
+fn rsa(case: Case, at: usize, s: &[u8], src: &[u8], out: &mut [u8]) {
+    match TpmsRsaParms::unmarshal(s, at) {
+        TpmsRsaParmsRead::Found(p, end) => tpmt_public_parms_asked(
+            case,
+            rsa_under(case, p),
+            tail_of(s, end),
+            src,
+            out,
+        ),
+        TpmsRsaParmsRead::No(f) => say_refusal(case.kind, f),
+    }
+}
+
+fn ecc_under(case: Case, p: TpmsEccParms) -> TpmtPublicParms {
     let mut y = p;
     if case.kind == 26 {
         let scheme = p.scheme;
-        y.scheme = ecc_scheme(case, scheme);
+        y.scheme = tpmt_ecc_scheme_under(case, scheme);
     } else {
         let kdf = p.kdf;
-        y.kdf = kdf_scheme(case, kdf);
+        y.kdf = tpmt_kdf_scheme_under(case, kdf);
     }
-    y
+    TpmtPublicParms {
+        object_type: TpmAlgId(registry::ECC),
+        parameters: TpmuPublicParms::Ecc(y),
+    }
 }
 
-fn is_of(kind: u8, first: u8, last: u8) -> bool {
-    first <= kind && kind <= last
+// 26: the scheme of an ECC key. 27: its key derivation.
+fn ecc(case: Case, at: usize, s: &[u8], src: &[u8], out: &mut [u8]) {
+    match TpmsEccParms::unmarshal(s, at) {
+        TpmsEccParmsRead::Found(p, end) => tpmt_public_parms_asked(
+            case,
+            ecc_under(case, p),
+            tail_of(s, end),
+            src,
+            out,
+        ),
+        TpmsEccParmsRead::No(f) => say_refusal(case.kind, f),
+    }
 }
 
-fn parms_of(
-    case: Case,
-    x: TpmtPublicParms,
-    held: TpmuPublicParms,
-    end: usize,
-    s: &[u8],
-    src: &[u8],
-    out: &mut [u8],
-) {
-    let object_type = x.object_type;
-    let y = TpmtPublicParms {
-        object_type: object_type,
-        parameters: held,
-    };
-    tpmt_public_parms_asked(case, y, end, s, src, out);
+// The arm of the parameters begins at that place.
+fn parms_at(case: Case, selector: u16, at: usize, s: &[u8], src: &[u8], out: &mut [u8]) {
+    let kind = case.kind;
+    if kind == 22 && selector == registry::KEYED_HASH {
+        keyedhash(case, at, s, src, out)
+    } else if kind == 23 && selector == registry::SYM_CIPHER {
+        symcipher(case, at, s, src, out)
+    } else if (kind == 24 || kind == 25) && selector == registry::RSA {
+        rsa(case, at, s, src, out)
+    } else if (kind == 26 || kind == 27) && selector == registry::ECC {
+        ecc(case, at, s, src, out)
+    } else {
+        say_other_arm(case, 9, s)
+    }
 }
 
 // 22 to 27: a selector in the parameters of a key.
-fn parms_held(case: Case, x: TpmtPublicParms, end: usize, s: &[u8], src: &[u8], out: &mut [u8]) {
-    let held = x.parameters;
-    match held {
-        TpmuPublicParms::KeyedHash(p) => {
-            if case.kind == 22 {
-                let other = keyedhash_scheme(case, p.scheme);
-                let q = TpmuPublicParms::KeyedHash(TpmsKeyedhashParms { scheme: other });
-                return parms_of(case, x, q, end, s, src, out);
-            }
-            say_no_such_case(case.kind)
-        }
-        TpmuPublicParms::SymCipher(p) => {
-            if case.kind == 23 {
-                let other = cipher(case, p.sym);
-                let q = TpmuPublicParms::SymCipher(TpmsSymcipherParms { sym: other });
-                return parms_of(case, x, q, end, s, src, out);
-            }
-            say_no_such_case(case.kind)
-        }
-        TpmuPublicParms::Rsa(p) => {
-            if is_of(case.kind, 24, 25) {
-                let q = TpmuPublicParms::Rsa(rsa_parms(case, p));
-                return parms_of(case, x, q, end, s, src, out);
-            }
-            say_no_such_case(case.kind)
-        }
-        TpmuPublicParms::Ecc(p) => {
-            if is_of(case.kind, 26, 27) {
-                let q = TpmuPublicParms::Ecc(ecc_parms(case, p));
-                return parms_of(case, x, q, end, s, src, out);
-            }
-            say_no_such_case(case.kind)
-        }
-        TpmuPublicParms::Null => say_no_such_case(case.kind),
+pub fn parms(case: Case, s: &[u8], src: &[u8], out: &mut [u8]) {
+    match uint16(s, case.first) {
+        Uint16Read::Found(selector, at) => parms_at(case, selector, at, s, src, out),
+        Uint16Read::No(f) => say_refusal(case.kind, f),
     }
 }
 
-pub fn parms(case: Case, s: &[u8], src: &[u8], out: &mut [u8]) {
-    match TpmtPublicParms::unmarshal(s, case.first) {
-        TpmtPublicParmsRead::Found(x, end) => parms_held(case, x, end, s, src, out),
-        TpmtPublicParmsRead::No(f) => say_refusal(case.kind, f),
+pub fn signature(case: Case, s: &[u8], src: &[u8], out: &mut [u8]) {
+    match uint16(s, case.first) {
+        Uint16Read::Found(selector, at) => {
+            if selector == registry::HMAC {
+                hmac(case, at, s, src, out)
+            } else {
+                say_other_arm(case, 10, s)
+            }
+        }
+        Uint16Read::No(f) => say_refusal(case.kind, f),
     }
+}
+
+fn with_magic(case: Case, x: TpmsAttest) -> TpmsAttest {
+    let mut y = x;
+    y.magic = case.selector as u32;
+    y
 }
 
 // 28: the magic of an attestation is the number of the selector.
 pub fn other_magic(case: Case, s: &[u8], src: &[u8], out: &mut [u8]) {
     match TpmsAttest::unmarshal(s, case.first) {
-        TpmsAttestRead::Found(x, end) => {
-            let mut y = x;
-            y.magic = case.selector as u32;
-            tpms_attest_asked(case, y, end, s, src, out);
-        }
+        TpmsAttestRead::Found(x, end) => tpms_attest_asked(
+            case,
+            with_magic(case, x),
+            tail_of(s, end),
+            src,
+            out,
+        ),
         TpmsAttestRead::No(f) => say_refusal(case.kind, f),
     }
+}
+
+fn with_auth(case: Case, x: TpmtSensitive) -> TpmtSensitive {
+    let mut y = x;
+    y.auth_value = Span::new(0, case.selector as usize);
+    y
 }
 
 // 29: the auth value of a sensitive area is a span from the source's start, as long as the selector says.
 pub fn other_auth(case: Case, s: &[u8], src: &[u8], out: &mut [u8]) {
     match TpmtSensitive::unmarshal(s, case.first) {
-        TpmtSensitiveRead::Found(x, end) => {
-            let mut y = x;
-            y.auth_value = Span::new(0, case.selector as usize);
-            tpmt_sensitive_asked(case, y, end, s, src, out);
-        }
+        TpmtSensitiveRead::Found(x, end) => tpmt_sensitive_asked(
+            case,
+            with_auth(case, x),
+            tail_of(s, end),
+            src,
+            out,
+        ),
         TpmtSensitiveRead::No(f) => say_refusal(case.kind, f),
     }
 }

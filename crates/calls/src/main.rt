@@ -1,33 +1,34 @@
 // Answers every case on standard input: two bytes that say how long it is, then the case, and then the next. A case is a record, a selector to
 // put in place of its own, and what is then asked of it: whether its unions match, what it is written as, its tail, a byte field and an item.
 // tests/vectors/README.md has the bytes of a case and the lines of an answer.
-mod areas;
+mod asked;
 mod case;
 mod inside;
+mod kinds;
 mod said;
-mod tagged;
+mod under;
 
-use crate::areas::tpml_pcr_selection;
-use crate::areas::tpms_attest;
-use crate::areas::tpmt_public;
-use crate::areas::tpmt_public_parms;
-use crate::areas::tpmt_sensitive;
-use crate::areas::tpmt_signature;
-use crate::areas::tpmt_sym_def;
 use crate::case::Case;
-use crate::inside::hmac_digest;
 use crate::inside::other_auth;
 use crate::inside::other_magic;
 use crate::inside::parms;
 use crate::inside::say_no_such_case;
+use crate::inside::signature;
+use crate::kinds::tpml_pcr_selection;
+use crate::kinds::tpms_attest;
+use crate::kinds::tpmt_ecc_scheme;
+use crate::kinds::tpmt_ha;
+use crate::kinds::tpmt_kdf_scheme;
+use crate::kinds::tpmt_keyedhash_scheme;
+use crate::kinds::tpmt_public;
+use crate::kinds::tpmt_public_parms;
+use crate::kinds::tpmt_rsa_decrypt;
+use crate::kinds::tpmt_rsa_scheme;
+use crate::kinds::tpmt_sensitive;
+use crate::kinds::tpmt_sig_scheme;
+use crate::kinds::tpmt_signature;
+use crate::kinds::tpmt_sym_def;
 use crate::said::UNTOUCHED;
-use crate::tagged::tpmt_ecc_scheme;
-use crate::tagged::tpmt_ha;
-use crate::tagged::tpmt_kdf_scheme;
-use crate::tagged::tpmt_keyedhash_scheme;
-use crate::tagged::tpmt_rsa_decrypt;
-use crate::tagged::tpmt_rsa_scheme;
-use crate::tagged::tpmt_sig_scheme;
 use codes::uint::Uint16Read;
 use codes::uint::uint16;
 
@@ -38,7 +39,7 @@ const MOST_ROOM: usize = 4096;
 
 const MOST_CASE: usize = 8192;
 
-fn answer(case: Case, s: &[u8], src: &[u8], out: &mut [u8]) {
+fn answer_scheme(case: Case, s: &[u8], src: &[u8], out: &mut [u8]) {
     let kind = case.kind;
     match kind {
         1 => tpmt_ha(case, s, src, out),
@@ -49,17 +50,40 @@ fn answer(case: Case, s: &[u8], src: &[u8], out: &mut [u8]) {
         6 => tpmt_rsa_scheme(case, s, src, out),
         7 => tpmt_ecc_scheme(case, s, src, out),
         8 => tpmt_rsa_decrypt(case, s, src, out),
+        _ => say_no_such_case(kind),
+    }
+}
+
+fn answer_area(case: Case, s: &[u8], src: &[u8], out: &mut [u8]) {
+    let kind = case.kind;
+    match kind {
         9 => tpmt_public_parms(case, s, src, out),
         10 => tpmt_signature(case, s, src, out),
         11 => tpmt_public(case, s, src, out),
         12 => tpmt_sensitive(case, s, src, out),
         13 => tpms_attest(case, s, src, out),
         14 => tpml_pcr_selection(case, s, src, out),
-        21 => hmac_digest(case, s, src, out),
+        _ => say_no_such_case(kind),
+    }
+}
+
+fn answer_inside(case: Case, s: &[u8], src: &[u8], out: &mut [u8]) {
+    let kind = case.kind;
+    match kind {
+        21 => signature(case, s, src, out),
         22..=27 => parms(case, s, src, out),
         28 => other_magic(case, s, src, out),
         29 => other_auth(case, s, src, out),
         _ => say_no_such_case(kind),
+    }
+}
+
+fn answer(case: Case, s: &[u8], src: &[u8], out: &mut [u8]) {
+    let kind = case.kind;
+    match kind {
+        0..=8 => answer_scheme(case, s, src, out),
+        9..=20 => answer_area(case, s, src, out),
+        _ => answer_inside(case, s, src, out),
     }
 }
 

@@ -91,21 +91,18 @@ fn say_part(kind: u8, word: &[u8], size: Measure, part: &[u8]) {
     }
 }
 
-// What stands behind the record, where a part is asked for.
-pub fn say_tail(case: Case, tail: &[u8]) {
+// What stood behind the record, and its byte field and its item with the index of the case, where one is asked for.
+pub fn say_parts(
+    case: Case,
+    tail: &[u8],
+    field_size: Measure,
+    field: &[u8],
+    item_size: Measure,
+    item: &[u8],
+) {
     if case.index != NO_INDEX {
         say_bytes(b"tail ", tail);
-    }
-}
-
-pub fn say_field(case: Case, size: Measure, part: &[u8]) {
-    if case.index != NO_INDEX {
-        say_part(case.kind, b"field ", size, part);
-    }
-}
-
-pub fn say_item(case: Case, size: Measure, part: &[u8]) {
-    if case.index != NO_INDEX {
-        say_part(case.kind, b"item ", size, part);
+        say_part(case.kind, b"field ", field_size, field);
+        say_part(case.kind, b"item ", item_size, item);
     }
 }
