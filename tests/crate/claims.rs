@@ -287,8 +287,9 @@ fn owned(t: &mut Tally) {
     let null: &[u8] = &TpmuHa::Null;
     t.text("2.7 Deref of TpmuHa::Null: an empty slice", null.len(), 0);
     let place = |text| TpmtSymDef::unmarshal(&bytes(text)[1..]).map(|(record, _)| record);
-    let alike = place("ff 0006 0080 0043 ff") == place("00 0006 0080 0043");
-    t.text("2.7 two records that were read at different places compare as equal", alike, true);
+    let one = place("ff 0006 0080 0043 ff");
+    let alike = [one.is_ok(), one == place("00 0006 0080 0043"), one == place("00 0006 0100 0043")];
+    t.text("2.7 two records that were read at different places compare as equal, and two others do not", alike, [true, true, false]);
 }
 
 fn sizes(t: &mut Tally) {
@@ -311,5 +312,5 @@ fn main() {
         part(&mut t);
     }
     println!("{} claims hold by the text, {} more with a rebuilt module, {} fail", t.text, t.rebuilt, t.failed);
-    std::process::exit(i32::from(t.failed > 0));
+    std::process::exit(i32::from(t.failed > 0 || t.text == 0 || t.rebuilt == 0));
 }

@@ -39,9 +39,9 @@ fn unlike_records(input: &str, ours: &Ours, crates: &Crates) -> Vec<&'static str
     unlike
 }
 
-/// Elsewhere the crate counts from a later start, so that its offset is at most our place.
-fn fits(kind: u32, place: usize, offset: usize) -> bool {
-    if ONE_PLACE.contains(&kind) { place == offset } else { place >= offset }
+/// Elsewhere the crate counts from a later start, so that its offset is at most our place; and that lies in the input or at its end.
+fn fits(kind: u32, input: &str, place: usize, offset: usize) -> bool {
+    if ONE_PLACE.contains(&kind) { place == offset } else { (offset..=input.len() / 2).contains(&place) }
 }
 
 /// Nothing, if the answers are alike; else in what they are not.
@@ -51,7 +51,7 @@ fn unlike(kind: u32, input: &str, ours: &Ours, crates: &Crates) -> Option<String
             if *number != number_of(name) || value != v {
                 return Some("both refuse, for another fault".to_string());
             }
-            (!fits(kind, *place, *offset)).then(|| "both refuse, at another place".to_string())
+            (!fits(kind, input, *place, *offset)).then(|| "both refuse, at another place".to_string())
         }
         (Ours::Read { .. }, Crates::Read { .. }) => {
             let unlike = unlike_records(input, ours, crates);

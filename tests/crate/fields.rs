@@ -3,6 +3,7 @@
 //!
 //! For each line it is kept who puts the field there: `t` if every structure, union and list around it is the text's, and else `r`. The cipher of
 //! an RSA key is laid out by `TpmtSymDef`, which is the text's; but that a cipher stands there `TpmsRsaParms` says, which is rebuilt. So it is `r`.
+//! That a buffer has a length in front is said by the rebuilt buffer: where the text put the buffer, its length is `l` and its body `t`.
 //! (A field's own width, list of codes or limit is always a rebuilt module's.)
 #![allow(dead_code)] // each program uses a part of it
 
@@ -15,7 +16,9 @@ use tpm2_protocol::{
     data::*,
 };
 
-const TEXT: char = 't';
+pub const TEXT: char = 't';
+/// The length of a buffer that the text put there.
+pub const LENGTH: char = 'l';
 pub const REBUILT: char = 'r';
 
 #[derive(Default)]
@@ -91,7 +94,7 @@ impl Fields for TpmiYesNo {
 impl<const N: usize> Fields for TpmBuffer<N> {
     fn list(&self, out: &mut Lines) {
         let bytes: &[u8] = self;
-        out.number(2, bytes.len() as u64);
+        out.under(LENGTH, |out| out.number(2, bytes.len() as u64));
         out.bytes(bytes);
     }
 }
@@ -112,7 +115,8 @@ impl<T: Fields + TpmMarshal + Copy, const N: usize> Fields for TpmList<T, N> {
             items.iter().for_each(|item| item.list(out));
         });
         out.byte_fields.truncate(ahead);
-        out.byte_fields.push((TEXT, written(self)));
+        let is_text = out.by != Some(REBUILT) && items.is_empty();
+        out.byte_fields.push((if is_text { TEXT } else { REBUILT }, written(self)));
         out.items = items.iter().map(written).collect();
     }
 }

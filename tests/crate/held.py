@@ -272,8 +272,6 @@ class Held:
 
     def sort(self, room):
         """What the case is about: how the two sides' answers are related follows from it."""
-        if (self.items() or 0) > CRATE_CAPACITY:
-            return 'list'
         if self.kind == 13 and self.target.selector not in ATTEST:
             return 'type'
         if not self.target.fits():
@@ -298,3 +296,25 @@ class Held:
         except Refused as refusal:
             return (*refusal.args, out.data.hex() or '-')
         return 'again', out.data.hex()
+
+
+def claimed_items(kind, data):
+    """The count of the list that the bytes have; None if there is no list in reach of a reader."""
+    reader = Reader(data)
+    try:
+        if kind == 13:
+            if reader.numbers(4, 2) != [b'\xffTCG', b'\x80\x18'] or not is_legal_ahead(reader):
+                return None
+        return int.from_bytes(reader.take(4), 'big') if kind in (13, 14) else None
+    except ValueError:
+        return None
+
+
+def is_legal_ahead(reader):
+    """Whether what stands between the type of an attestation and its arm is legal."""
+    for _ in range(2):
+        length = reader.code()
+        if length > 66:
+            return False
+        reader.take(length)
+    return reader.clock()[-1] in (b'\0', b'\1') and len(reader.take(8)) == 8

@@ -1,21 +1,24 @@
 """One case of writing judged: what follows for our answer from the crate's, and the class where the two differ."""
 
 import re
+from collections import Counter
 
-from held import CRATE_CAPACITY, INSIDE, TAGS, Held, Reader
-from inputs import ALGS, ATTEST
+from held import INSIDE, Held, claimed_items
 
 NUMBERS = {'UnexpectedEnd': 1, 'End': 1, 'Code': 2, 'VariantNotAvailable': 3, 'Length': 4, 'TooManyItems': 5, 'Value': 6, 'TrailingData': 11}
-TOLD = re.compile(r'm(?P<flags>[01]*) (?:again (?P<put>text|rebuilt) (?P<written>[0-9a-f]+)'
+TOLD = re.compile(r'm(?P<flags>[01]*) (?P<by>text|rebuilt) (?:again (?P<written>[0-9a-f]+)'
                   r'|err (?P<who>text|rebuilt) (?P<name>\w+) (?P<offset>\d+) (?P<value>\d+) (?P<left>-|[0-9a-f]+))'
                   r'(?: tail (?P<tail>\S+) field (?:none|(?P<field_by>text|rebuilt) (?P<field>\S+)) item (?P<item>\S+))?')
+LONG = range(9, 17)  # items that we read and the crate does not
+LIST = '2.1, 2.7: more items than the crate holds'
 LISTED = {
-    'list': '2.1, 2.7: more items than the crate holds',
     'type': '2.5: an attestation type outside the eight (TpmsAttest::marshal is rebuilt)',
     'null cipher': '2.6: a Null cipher that holds another arm; the crate leaves both unions out',
     'room first': '2.6: the room ends ahead of a nested structure whose arm is wrong; the crate does not come to the arm',
 }
 LEFT = '2.6: what a refused writer left behind; the crate left bytes'
+# Kinds of a record in which the crate's offset is our place, counted from the record's start (docs/DIFFERENCES.md, 2.4).
+ONE_PLACE = (1, 3, 5, 6, 7, 8)
 
 
 class Wrong(Exception):
@@ -29,6 +32,11 @@ def refusal(kind, number, place, value):
 def hold(what, found, wanted):
     if found != wanted:
         raise Wrong(f'{what}: not {wanted}')
+
+
+def kind_read(case):
+    """The kind of the record that the case reads."""
+    return {28: 13, 29: 12}.get(case.kind) or INSIDE.get(case.kind, (case.kind,))[0]
 
 
 def asked(case, told):
@@ -54,7 +62,7 @@ def crate_is_right(case, held, told):
 
 
 def our_line(case, held, told, sort):
-    """What our writer must answer. Where the two sides agree it is what the crate answered; else what the case's class says."""
+    """What our writer must answer. What is written, and a selector that is refused, are the crate's; the rest is docs/FORMAT.md's."""
     if sort == 'written':
         hold('what the crate answers', told['written'] is not None, True)
         return 'again ' + told['written']
@@ -66,6 +74,13 @@ def our_line(case, held, told, sort):
     return refusal(case.kind, number, place, value)
 
 
+def decided_by(case, told, sort):
+    """Text, if no rebuilt structure has a part in the answer."""
+    if sort == 'arm':  # the test for the arm is a structure's first deed; 22 to 27 come to it inside a rebuilt structure
+        return 'rebuilt' if case.kind in range(22, 28) else told['who']
+    return told['by']
+
+
 def judge_told(case, told, ours, count):
     """A case that the crate has. Answers its class, '' where the two sides agree."""
     held = Held(case.kind, case.selector, case.first, case.second)
@@ -73,99 +88,42 @@ def judge_told(case, told, ours, count):
     crate_is_right(case, held, told)
     wanted = [f'm {flag}' for flag in told['flags']] + [our_line(case, held, told, sort)]
     hold('our answer', ours, wanted + (asked(case, told) if case.has_index else []))
+    count['unions'] += told['flags'] != ''
     count['matches'] += '0' not in told['flags'] and told['flags'] != ''
+    if case.has_index:
+        count_asked(told, count)
     if sort in LISTED:
-        count['differ'] += 1
+        count[f'differ {"rebuilt" if sort == "type" else told["by"]}'] += 1
         return LISTED[sort]
-    count[sort if sort == 'room' else f'{sort} {told["put"] or told["who"]}'] += 1
+    count[f'{sort} {decided_by(case, told, sort)}'] += 1
     return LEFT if told['left'] not in (None, '-') else ''
 
 
 def count_asked(told, count):
-    count['tail'] += 1
+    count[f'tail {told["by"]}'] += 1
     count[f'field {told["field_by"] or "none"}'] += 1
     count['no item' if told['item'] == 'none' else 'item'] += 1
 
 
-def to_the_list(kind, first):
-    """A reader behind the count of the list that the bytes have, and the count; None if there is none in reach."""
-    reader = Reader(first)
-    try:
-        if kind == 13:
-            if reader.numbers(4, 2) != [b'\xffTCG', b'\x80\x18']:
-                return reader, None
-            reader.buffers(2), reader.clock(), reader.take(8)
-        return reader, int.from_bytes(reader.take(4), 'big') if kind in (13, 14) else None
-    except ValueError:
-        return reader, None
-
-
-def fault_behind(kind, reader, count):
-    """The number of the first fault behind a list's count; 0 if there is none."""
-    try:
-        for _ in range(count):
-            if reader.code() not in ALGS:
-                return 2
-            size = reader.take(1)[0]
-            if size > 4:
-                return 4
-            reader.take(size)
-        if kind == 13:
-            size = reader.code()
-            if size > 64:
-                return 4
-            reader.take(size)
-    except ValueError:
-        return 1
-    return 0
-
-
-def hold_long_list(case, fault, found, ours):
-    """Ours, where the crate does not read a list for its length. What is asked by index has nothing to be held to."""
-    if fault:
-        hold('the number of our refusal', found and int(found[1]), fault)
-        return
-    if case.source or case.kind == 28:
-        return
-    held = Held(case.kind, case.selector, case.first)
-    line = held.ours(case.room)
-    again = 'again ' + held.crates(case.room)[1] if line == ('again',) else refusal(case.kind, *line)
-    wanted = [f'm {int(union.chosen_by(case.selector))}' for union in held.target.unions()] + [again]
-    hold('our answer', ours[:-3] if case.has_index else ours, wanted)
-
-
 def judge_unread(case, words, ours, count):
-    """A case whose first or second record the crate does not read."""
-    who, name, offset, value = words
-    kind = {28: 13, 29: 12}.get(case.kind) or INSIDE.get(case.kind, (case.kind,))[0]
+    """A case whose first or second record neither side reads."""
+    which, who, name, offset, value = words
+    begins = case.first_at if which == 'first' else case.second_at
     found = re.fullmatch(rf'kind {case.kind} refused (\d+) at (\d+) value (\d+)', ours[0]) if len(ours) == 1 else None
-    if found and (int(found[1]), found[3]) == (NUMBERS[name], value) and int(found[2]) >= int(offset):
-        count['unread ' + who] += 1
-        return ''
-    count['differ'] += 1
-    reader, claimed = to_the_list(kind, case.first)
-    if claimed in range(CRATE_CAPACITY + 1, 17):
-        hold('the crate\'s refusal of a list', words, ['text', 'TooManyItems', '0', str(claimed)])
-        hold_long_list(case, fault_behind(kind, reader, claimed), found, ours)
-        return LISTED['list']
-    code = int.from_bytes(case.first[4:6], 'big')
-    if kind == 13 and case.first[:4] == b'\xffTCG' and code in TAGS and code not in ATTEST:
-        hold('our answer', ours, [refusal(case.kind, 2, case.first_at + 4, code)])
-        hold('the crate\'s refusal of a type', name in ('End', 'Length', 'Value') or words == ['text', 'VariantNotAvailable', '0', str(code)], True)
-        return '2.5: an attestation type outside the eight, read'
-    raise Wrong('a record is not read')
+    hold('our refusal', found and (int(found[1]), found[3]), (NUMBERS[name], value))
+    place, least = int(found[2]), begins + int(offset)
+    exact = kind_read(case) in ONE_PLACE or name == 'TrailingData'
+    hold('the place of our refusal', place == least if exact else least <= place <= max(least, len(case.records)), True)
+    count['unread ' + who] += 1
+    return ''
 
 
-def judge(case, line, ours, count):
-    """The class of the case, '' where the two sides agree. What is neither is raised."""
+def judge_line(case, line, ours, count):
     told = TOLD.fullmatch(line)
     if told:
-        name = judge_told(case, told, ours, count)
-        if case.has_index:
-            count_asked(told, count)
-        return name
+        return judge_told(case, told, ours, count)
     words = line.split(' ')
-    if words[0] == 'refused' and len(words) == 5:
+    if words[0] == 'refused' and len(words) == 6:
         return judge_unread(case, words[1:], ours, count)
     if line == 'another arm':
         hold('our answer', ours, [refusal(case.kind, 12, 0, case.kind)])
@@ -175,3 +133,22 @@ def judge(case, line, ours, count):
         count['left out'] += 1
         return line
     raise Wrong('the crate is not at one with itself')
+
+
+def judge(case, line, line16, ours, count):
+    """The class of the case, '' where the two sides agree. What is neither is raised.
+
+    Whether a case is of a list that is too long for the crate its bytes say. Then the crate must say so, and we are held to the crate
+    with lists of 16, in which there is no such class.
+    """
+    claimed = claimed_items(kind_read(case), case.first)
+    if claimed not in LONG:
+        return judge_line(case, line, ours, count)
+    hold('the crate\'s refusal of a list', line, f'refused first text TooManyItems 0 {claimed}')
+    alone = Counter()
+    name = judge_line(case, line16, ours, alone)
+    if alone['left out']:
+        count['left out'] += 1
+        return name
+    count['differ text'] += 1
+    return LIST

@@ -31,7 +31,7 @@ impl AddAssign for Pair {
 #[derive(Default, Clone)]
 struct Counts {
     inputs: u64,
-    /// Records read alike; in `text` those in which no rebuilt structure puts a field.
+    /// Records read alike; in `text` those that no rebuilt structure is in.
     read: Pair,
     fields: Pair,
     refused: Pair,
@@ -107,9 +107,9 @@ impl Tables {
         for counts in self.both(kind, sort) {
             match (ours, crates) {
                 (_, Crates::Read { who, .. }) => {
-                    let rebuilt = who.matches('r').count() as u64;
-                    counts.read += Pair::one(if rebuilt == 0 { "text" } else { "rebuilt" });
-                    counts.fields += Pair { text: who.len() as u64 - rebuilt, rebuilt };
+                    let text = who.matches('t').count() as u64;
+                    counts.read += Pair::one(if who.contains('r') { "rebuilt" } else { "text" });
+                    counts.fields += Pair { text, rebuilt: who.len() as u64 - text };
                 }
                 (Ours::Refused { place, .. }, Crates::Refused { who, name, offset, .. }) => {
                     counts.refused += Pair::one(who);
@@ -168,7 +168,7 @@ impl Tables {
     }
 
     fn print_answers(&self, all: &Counts) {
-        print!("\n| Kind | Inputs | Read alike | of these by the text alone | Fields alike: text | rebuilt ");
+        print!("\n| Kind | Inputs | Read alike | of these in the text's structures alone | Fields alike: text | rebuilt ");
         println!("| Refused alike: text | rebuilt | at one place: text | rebuilt | Listed: text | rebuilt | New |");
         println!("|---|---|---|---|---|---|---|---|---|---|---|---|---|");
         for (kind, c) in self.rows(all) {
@@ -190,7 +190,7 @@ impl Tables {
     }
 
     fn print_sorts(&self) {
-        println!("\n| Sort | Inputs | Read alike: by the text alone | rebuilt too | Refused alike: text | rebuilt | Listed: text | rebuilt |");
+        println!("\n| Sort | Inputs | Read alike: in the text's structures alone | a rebuilt one too | Refused alike: text | rebuilt | Listed: text | rebuilt |");
         println!("|---|---|---|---|---|---|---|---|");
         for (sort, c) in &self.by_sort {
             print!("| {sort} | {} ", c.inputs);

@@ -1,10 +1,10 @@
 #!/usr/bin/env python3
 """Compares matches_tag, writing and asking by index with the crate's, on records whose selector was replaced.
 
-    writing.py FOLDER CRATE GATE OURS...
+    writing.py FOLDER GATE OURS...
 
-FOLDER is for the cases and answers, CRATE the program of writing.rs, GATE the folder with the gate's own cases and answers (crates/calls), OURS the
-command that runs our program `calls`. Ends with 0 only if every answer was alike or differs as docs/DIFFERENCES.md says.
+FOLDER has the program of writing.rs, in published over the crate's text and in sixteen over the text with lists of 16, and is for the cases and
+answers. GATE is the folder with the gate's own cases and answers (crates/calls), OURS the command that runs our program `calls`. Ends with 0 only if every answer was alike or differs as docs/DIFFERENCES.md says.
 """
 
 import random
@@ -24,6 +24,8 @@ def answers(text, made):
     lines = text.split('\n')
     if lines.pop() != '':
         raise Wrong('our answers do not end with a line')
+    if 'changed' in lines:
+        raise Wrong('a writer of ours changed what it was not to write')
     at = 0
     for case in made:
         start = at
@@ -32,7 +34,6 @@ def answers(text, made):
             at += unions + 1 + 3 * case.has_index
         else:
             at += 1 + 3 * (not unions and lines[at + 1:at + 2] != [] and lines[at + 1].startswith('tail '))
-        at += lines[at:at + 1] == ['changed']
         if at > len(lines):
             raise Wrong('our answers end too early')
         yield lines[start:at]
@@ -46,11 +47,11 @@ class Tally:
     def __init__(self):
         self.kinds, self.classes, self.shortest, self.new = {}, Counter(), {}, []
 
-    def take(self, case, line, ours):
+    def take(self, case, line, line16, ours):
         count = self.kinds.setdefault(case.kind, Counter())
         count['cases'] += 1
         try:
-            name = judge(case, line, ours, count)
+            name = judge(case, line, line16, ours, count)
         except (Wrong, ValueError, KeyError) as wrong:
             count['new'] += 1
             self.new.append(f'{wrong}\n' + shown(case, line, ours))
@@ -65,27 +66,28 @@ def shown(case, line, ours):
     return f'    {case}\n    ours:  {" | ".join(ours)}\n    crate: {line}'
 
 
-def tally(made, crate, ours):
-    """All cases judged. CRATE and OURS are the two sides' whole answers."""
-    found, lines = Tally(), crate.splitlines()
+def tally(made, crate, crate16, ours):
+    """All cases judged. CRATE, CRATE16 and OURS are whole answers: the crate's, the crate's with lists of 16, and ours."""
+    found, lines, lines16 = Tally(), crate.splitlines(), crate16.splitlines()
     try:
-        if len(lines) != len(made):
-            raise Wrong('the crate did not answer each case')
-        for case, line, answer in zip(made, lines, answers(ours, made)):
-            found.take(case, line, answer)
+        if not made or not len(lines) == len(lines16) == len(made):
+            raise Wrong('the crate did not answer each case, or there is none')
+        for case, line, line16, answer in zip(made, lines, lines16, answers(ours, made)):
+            found.take(case, line, line16, answer)
     except Wrong as wrong:
         found.new.append(str(wrong))
     return found
 
 
-COLUMNS = [('Cases', 'cases'), ('matches_tag: yes', 'matches'), ('Written alike, by the text', 'written text'),
-           ('through a rebuilt structure', 'written rebuilt'), ('Refused alike for the arm, by the text', 'arm text'),
-           ('by a rebuilt structure', 'arm rebuilt'), ('Refused alike for the room, by the text', 'room')]
-READ = [('Not read alike, by the text', 'unread text'), ('by a rebuilt leaf', 'unread rebuilt'), ('by the tail', 'unread caller'),
-        ('Another arm', 'another arm'), ('Left out', 'left out')]
-LAST = [('Listed difference', 'differ'), ('New', 'new')]
-ASKED = [('Tails alike', 'tail'), ('Byte fields alike, put there by the text', 'field text'), ('by a rebuilt structure', 'field rebuilt'),
-         ('No such field', 'field none'), ('Items alike', 'item'), ('No such item', 'no item')]
+# Text: no rebuilt structure has a part in it. A refusal for the arm is the text's, but for kind 13, and inside a rebuilt structure (22 to 27).
+COLUMNS = [('Cases', 'cases'), ('matches_tag alike, by the text', 'unions'), ('of these yes', 'matches'),
+           ('Written alike: text', 'written text'), ('rebuilt', 'written rebuilt'), ('Refused alike for the arm: text', 'arm text'),
+           ('rebuilt', 'arm rebuilt'), ('Refused alike for the room: text', 'room text'), ('rebuilt', 'room rebuilt')]
+READ = [('Not read alike: text', 'unread text'), ('rebuilt', 'unread rebuilt'), ('for a tail, by neither', 'unread caller'),
+        ('Another arm, by neither', 'another arm'), ('Left out', 'left out')]
+LAST = [('Listed difference: text', 'differ text'), ('rebuilt', 'differ rebuilt'), ('New', 'new')]
+ASKED = [('Tails alike: text', 'tail text'), ('rebuilt', 'tail rebuilt'), ('Byte fields alike: text', 'field text'), ('rebuilt', 'field rebuilt'),
+         ('No such field', 'field none'), ('Items alike, rebuilt', 'item'), ('No such item', 'no item')]
 
 
 def table(kinds, columns):
@@ -107,14 +109,22 @@ def tell(found, columns):
 
 
 def run(command, stream):
-    return subprocess.run(command, input=stream, capture_output=True, check=True).stdout.decode()
+    done = subprocess.run(command, input=stream, stdout=subprocess.PIPE)
+    if done.returncode:
+        raise SystemExit(f'tests/crate/writing.py: {command[0]} ended with {done.returncode}')
+    return done.stdout.decode()
 
 
-def compare_made(folder, crate, ours):
+def crates(folder, stream):
+    """The crate's answers, and those with lists of 16."""
+    return [run([folder / name / 'writing'], stream) for name in ('published', 'sixteen')]
+
+
+def compare_made(folder, ours):
     made = list(cases.made(random.Random(7)))
     stream = b''.join(case.framed() for case in made)
-    sides = run([crate], stream), run(ours, stream)
-    for name, text in zip(('writing.crate', 'writing.ours'), sides):
+    sides = [*crates(folder, stream), run(ours, stream)]
+    for name, text in zip(('writing.crate', 'writing.crate16', 'writing.ours'), sides):
         (folder / name).write_text(text, encoding='utf-8')
     (folder / 'writing.cases').write_bytes(stream)
     print(f'{len(made)} cases\n')
@@ -126,22 +136,25 @@ def compare_made(folder, crate, ours):
     return well
 
 
-def compare_gate(crate, gate):
+def compare_gate(folder, gate):
     """The gate's cases; its answers were made from docs/FORMAT.md and real records, without our code."""
     stream = (gate / 'stdin').read_bytes()
     made = list(cases.unframed(stream))
-    found = tally(made, run([crate], stream), (gate / 'stdout').read_text(encoding='utf-8'))
+    found = tally(made, *crates(folder, stream), (gate / 'stdout').read_text(encoding='utf-8'))
     well = tell(found, COLUMNS + READ + LAST)
     total = sum(found.kinds.values(), Counter())
-    print(f"of {len(made)} cases of the gate the crate confirmed {len(made) - total['left out'] - total['differ'] - len(found.new)}")
+    by = {who: sum(total[f'{sort} {who}'] for sort in ('written', 'arm', 'room', 'unread')) for who in ('text', 'rebuilt')}
+    neither, listed = total['unread caller'] + total['another arm'], total['differ text'] + total['differ rebuilt']
+    print(f"of {len(made)} cases of the gate {by['text']} follow from the text, {by['rebuilt']} with a rebuilt structure or leaf, "
+          f"{neither} from neither, {listed} differ as listed, {total['left out']} are left out")
     return well
 
 
-def main(folder, crate, gate, *ours):
+def main(folder, gate, *ours):
     print('Cases made here')
-    well = compare_made(Path(folder), crate, list(ours))
+    well = compare_made(Path(folder), list(ours))
     print('The gate\'s own cases')
-    well = compare_gate(crate, Path(gate)) and well
+    well = compare_gate(Path(folder), Path(gate)) and well
     return 0 if well else 1
 
 

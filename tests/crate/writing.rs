@@ -1,13 +1,13 @@
 //! Reads the cases that the program `calls` reads, in the same frame, and answers each of them by the crate's calls in one line:
 //!
 //!     no such record: WHY         the crate has no record like this: its kind, its selector, or a source that is not the records
-//!     refused WHO NAME OFFSET VALUE      a record of the case is not read; WHO is `text`, `rebuilt`, or `caller` for a tail
+//!     refused first|second WHO NAME OFFSET VALUE      that record of the case is not read; WHO is `text`, `rebuilt`, or `caller` for a tail
 //!     another arm                 kinds 21 to 27 find another arm than the one that they are for
-//!     mM.. WRITTEN [tail HEX field WHO HEX item HEX]
+//!     mM.. WHO WRITTEN [tail HEX field WHO HEX item HEX]
 //!
-//! M is 1 or 0 for each union, what `matches_tag` says. WRITTEN is `again WHO HEX`, or `err WHO NAME OFFSET VALUE LEFT` with what the
-//! refused writer left behind. Of a record that was written WHO is `rebuilt` if a rebuilt structure put one of its fields there, of a
-//! byte field if it put that one there. `-` stands for no bytes, `none` for no such field or item. A word behind `!` says that the crate
+//! M is 1 or 0 for each union, what `matches_tag` says. WHO is `rebuilt` if a rebuilt structure is in the record, and else `text`; of a byte
+//! field, if it is inside of one. WRITTEN is `again HEX`, or `err WHO NAME OFFSET VALUE LEFT` with who refused and what the refused writer
+//! left behind. `-` stands for no bytes, `none` for no such field or item. A word behind `!` says that the crate
 //! is not at one with itself: `len` (`TpmSized::len` is not what was written) or `behind` (the output was changed behind that).
 
 mod fields;
@@ -52,13 +52,14 @@ impl<'a> Case<'a> {
     }
 
     fn first<T: TpmUnmarshal>(&self) -> Result<(T, &'a [u8]), String> {
-        T::unmarshal(self.first).map_err(|e| format!("refused {}", said(e)))
+        T::unmarshal(self.first).map_err(|e| format!("refused first {}", said(e)))
     }
 
     /// Nothing may follow it. The crate hands back what follows, and its callers look.
     fn second<T: TpmUnmarshal>(&self) -> Result<T, String> {
-        let (record, tail) = T::unmarshal(self.second).map_err(|e| format!("refused {}", said(e)))?;
-        if tail.is_empty() { Ok(record) } else { Err(format!("refused caller TrailingData 0 {}", tail.len())) }
+        let (record, tail) = T::unmarshal(self.second).map_err(|e| format!("refused second {}", said(e)))?;
+        let end = self.second.len() - tail.len();
+        if tail.is_empty() { Ok(record) } else { Err(format!("refused second caller TrailingData {end} {}", tail.len())) }
     }
 
     fn selector<C: TryFrom<u16>>(&self) -> Result<C, String> {
@@ -91,7 +92,7 @@ fn written<T: TpmMarshal + TpmSized + Fields>(record: &T, room: usize) -> String
     let answer = record.marshal(&mut writer);
     let size = writer.len();
     let mut text = match answer {
-        Ok(()) => format!("again {} {}", who(lines_of(record).who.contains(REBUILT)), hex(writer.as_bytes())),
+        Ok(()) => format!("again {}", hex(writer.as_bytes())),
         Err(e) => format!("err {} {}", said(e), or_dash(writer.as_bytes())),
     };
     if answer.is_ok() && record.len() != size {
@@ -117,7 +118,8 @@ fn told<T: TpmMarshal + TpmSized + Fields>(case: &Case, matches: &[bool], record
     }
     let flags: String = matches.iter().map(|yes| if *yes { '1' } else { '0' }).collect();
     let asked = case.index.map_or_else(String::new, |index| by_index(record, index, tail));
-    Ok(format!("m{flags} {}{asked}", written(record, case.room)))
+    let by = who(lines_of(record).who.contains(REBUILT));
+    Ok(format!("m{flags} {by} {}{asked}", written(record, case.room)))
 }
 
 macro_rules! relabelled {
