@@ -3,14 +3,23 @@
 The frame is that of our program `calls` (tests/vectors/README.md has its bytes), which the crate's side (writing.rs) reads too.
 """
 
+from itertools import product
 from typing import NamedTuple
 
-from held import CRATE_CAPACITY, INSIDE, TAGS, Held
+from held import ARMS, CRATE_CAPACITY, INSIDE, TAGS, UNION_OF_KIND, Held, Reader
 from inputs import ALGS, Maker, be
 
 ENOUGH = 4096
 NO_INDEX = 0xFFFF
 HEAD = 14
+
+# What the cases have to come to: the unions whose selector a kind replaces, and how many byte fields a record of a kind can have.
+UNIONS = {
+    **{kind: (name,) for kind, name in UNION_OF_KIND.items()},
+    2: ('key bits', 'mode'), 11: ('parameters', 'unique'), 12: ('sensitive',), 13: ('attestation',), 21: ('digest',), 22: ('keyed hash',),
+    23: ('key bits', 'mode'), 24: ('key bits', 'mode'), 25: ('asymmetric',), 26: ('asymmetric',), 27: ('kdf',),
+}
+BYTE_FIELDS = {1: 1, 10: 2, 11: 3, 12: 3, 13: 4, 14: 1}
 
 
 class Case(NamedTuple):
@@ -152,3 +161,71 @@ def made(r):
     maker = Maker(r)
     for sort in (relabelled, relabelled_inside, indexed, lists):
         yield from sort(r, maker)
+
+
+class Counting(Reader):
+    """Counts the byte fields that it reads: a digest, a buffer, a list as a whole."""
+
+    fields = 0
+
+    def buffers(self, count):
+        self.fields += count
+        return super().buffers(count)
+
+    def items(self):
+        self.fields += 1
+        return super().items()
+
+    def arm(self, name, arm):
+        self.fields += name == 'digest' and arm != 'Null'
+        return super().arm(name, arm)
+
+
+def byte_fields(case):
+    """How many byte fields the record has. In kind 11 the last are those of the second record; ahead of them both have the same."""
+    reader = Counting(case.second if case.kind == 11 else case.first)
+    reader.record(case.kind)
+    return reader.fields
+
+
+def arms_of(name):
+    return sorted(set(ARMS[name].values()))
+
+
+def wanted_arms():
+    """The kind, the union by its turn, its arm, the code; of kinds 2 and 11 both arms, which come from two records."""
+    for kind, names in UNIONS.items():
+        codes = TAGS if kind == 13 else ALGS
+        for turn, name in enumerate(names):
+            yield from product([kind], [turn], arms_of(name), codes)
+        if kind in (2, 11):
+            yield from product([kind], ['both'], product(*map(arms_of, names)), codes)
+
+
+def met_arms(case):
+    arms = tuple(union.arm for union in Held(case.kind, case.selector, case.first, case.second).target.unions())
+    yield from ((case.kind, turn, arm, case.selector) for turn, arm in enumerate(arms))
+    yield case.kind, 'both', arms, case.selector
+
+
+def wanted_indices():
+    """A byte field with each index that one can have, an item with each index within the crate's capacity; and none."""
+    yield from ((kind, 'field', index) for kind, count in BYTE_FIELDS.items() for index in range(count))
+    yield from product((13, 14), ['item'], range(CRATE_CAPACITY))
+    yield from product(range(1, 15), ('no field', 'no item'), [None])
+
+
+def met_indices(case):
+    fields, items = byte_fields(case), items_of(case.kind, case.first) or 0
+    yield (case.kind, 'field', case.index) if case.index < fields else (case.kind, 'no field', None)
+    yield (case.kind, 'item', case.index) if case.index < items else (case.kind, 'no item', None)
+
+
+def require_complete(made):
+    """Stops unless every arm met every code where there was room enough, and everything that can be asked by index was asked."""
+    arms = {key for case in made if case.kind in UNIONS and case.room == ENOUGH for key in met_arms(case)}
+    indices = {key for case in made if case.kind in range(1, 15) and case.has_index for key in met_indices(case)}
+    for what, wanted, met in (('arm under a code', wanted_arms(), arms), ('index', wanted_indices(), indices)):
+        missing = [key for key in wanted if key not in met]
+        if missing:
+            raise SystemExit(f'tests/crate/cases.py: {len(missing)} times no case has the {what}; the first is {missing[0]}')

@@ -1,7 +1,7 @@
-"""Single changes of the published text, each of which a comparison has to report.
+"""Single changes of the published text, each of which a comparison or a claim has to report.
 
-Not tried is what nothing here compares: the fields `limit` and `available` of an error, the calls of 2.9 in docs/DIFFERENCES.md, and
-what can only come up on a 16-bit machine or behind another test that says the same.
+Not tried is what nothing here compares: `available` of an UnexpectedEnd, the calls of 2.9 in docs/DIFFERENCES.md, and what can only come up
+on a 16-bit machine or behind another test that says the same.
 """
 
 import re
@@ -108,12 +108,36 @@ WRITING = {
     ],
 }
 
+# What no record shows, and the claims alone look at: the limit and the room in an error, what is put into a list, the views that walk no
+# items, the offset of a view, the greatest sizes.
+CLAIMS = {
+    'lib.rs': [
+        ('available: self.buffer.len().saturating_sub(self.cursor)', 'available: self.buffer.len()'),
+        ('Ok((value, &buf[buf.len()..]))', 'Ok((value, buf))'),
+    ],
+    'basic/list.rs': [
+        *((f'limit: CAPACITY,\n                actual: {actual},', f'limit: CAPACITY + 1,\n                actual: {actual},')
+          for actual in ('item_count', 'self.len + 1', 'new_len', 'count')),
+        ('actual: self.len + 1', 'actual: self.len'), ('actual: new_len', 'actual: CAPACITY'),
+        ('if self.len >= CAPACITY {', 'if self.len + 1 >= CAPACITY {'),
+        ('if buf.len() < TPML_COUNT_LEN {', 'if buf.len() <= TPML_COUNT_LEN {'),
+        ('remaining: self.count()', 'remaining: 1'), ('self.buf = tail;', ''), ('Some(Err(err))', 'None'),
+    ],
+    'data/tpmu.rs': [('Self::Null => &[],', 'Self::Null => &[0],')],
+    'data/tpmt.rs': [
+        ('                        $tag_field,\n                        buf,\n                    )?;',
+         '                        $tag_field,\n                        buf,\n                    ).map_err(|e| e.rebase(2))?;'),
+        ('<$tag_ty>::SIZE + <$value_ty>::SIZE', '<$value_ty>::SIZE'),
+        ('TpmAlgId::SIZE + TpmuSymKeyBits::SIZE + TpmAlgId::SIZE', 'TpmuSymKeyBits::SIZE + TpmAlgId::SIZE'),
+    ],
+}
+
 
 class Change(NamedTuple):
     path: str
     what: str
     text: str  # of the whole file
-    first: str  # the comparison that is tried first
+    first: str  # `reading` or `writing`, the comparison that is tried first; or `claims`, which are tried alone
 
 
 def replaced(path, text, pairs, first):
@@ -152,7 +176,7 @@ def arms(path, text):
 
 
 def changes(folder):
-    for first, files in (('reading', READING), ('writing', WRITING)):
+    for first, files in (('reading', READING), ('writing', WRITING), ('claims', CLAIMS)):
         for path, pairs in files.items():
             yield from replaced(path, (folder / path).read_text(encoding='utf-8'), pairs, first)
     path = 'data/tpmu.rs'

@@ -1,13 +1,13 @@
 #!/usr/bin/env python3
 """That the comparisons can fail.
 
-    trial.py FOLDER OURS
+    trial.py FOLDER GATE OURS
 
-FOLDER has what the run made: the programs in published and sixteen, `inputs`, and `writing.cases` and `writing.ours`. OURS is the command that
-runs a program of ours by its name.
+FOLDER has what the run made: the programs in published and sixteen, `inputs`, and `writing.cases`, `writing.crate`, `writing.crate16` and
+`writing.ours`. GATE is the folder with the gate's own cases and answers, OURS the command that runs a program of ours by its name.
 
-With nothing changed nothing may be reported. Then single bytes of our answers are changed, and single places of the crate's text (changes.py), of
-which a variant is built each. Ends with 0 only if every change was reported.
+With nothing changed nothing may be reported. Then single places of our answers are changed (places.py), and of the gate's; and single places of
+the crate's text (changes.py), of which a variant is built each. Ends with 0 only if every change was reported.
 """
 
 import os
@@ -20,104 +20,165 @@ from concurrent.futures import ThreadPoolExecutor
 from pathlib import Path
 
 import cases
-import writing
+import places
 from changes import changes
+from held import TAGS, Reader
+from inputs import ATTEST
+from sides import HERE, Claims, Ended, Reading, Writing, answer, asked, fail, is_built, parsed
 
-HERE = Path(__file__).resolve().parent
 TEXT = HERE / 'text'
-READING_CHANGES, WRITING_CHANGES = 100, 60
-# Of the sorts of input that are many, one in so many; of the others all.
-PART = {'sweep': 61, 'code': 5, 'bit': 3, 'random': 16}
-READING_CHUNKS, WRITING_CHUNKS = 48, 60
+# How often each sort of place is changed: 12 sorts of reading, 15 where differences are listed, and 10 of writing.
+SIXTEEN_EACH, LISTED_EACH, WRITING_EACH, GATE_EACH = 10, 4, 9, 6
+ONE_PLACE = (1, 3, 5, 6, 7, 8)  # the kinds where the place of a refusal is held, and not only bounded (compare.rs)
+# A kind that is not the input's, and `read` for `refused`, are no answer to the input: there the comparison stops, and says so.
+STOPS, STOPPED = ('kind', 'word'), b'ours, kind '
+# Places in a refusal of an attestation type outside the eight, where we answer what is listed and the crate another thing.
+TYPE_SORTS = {f'type {name}': (name,) for name in ('number', 'place', 'value')}
 
 
-def fail(text):
-    raise SystemExit(f'tests/crate/trial.py: {text}')
-
-
-class Reading:
-    """A part of the inputs in chunks, with our answers, so that a comparison can end with the first difference."""
-
-    def __init__(self, folder, work, ours):
-        self.compare, self.chunks = folder / 'published/compare', []
-        lines = list(part_of(folder / 'inputs'))
-        for turn in range(READING_CHUNKS):
-            chunk = work / f'reading-{turn}'
-            chunk.mkdir()
-            own = lines[turn::READING_CHUNKS]
-            (chunk / 'inputs').write_text(''.join(own), encoding='utf-8')
-            with open(chunk / 'ours', 'wb') as got:
-                subprocess.run([ours, 'deposits'], input=b''.join(map(framed, own)), stdout=got, check=True)
-            self.chunks.append(chunk)
-        self.size = len(lines)
-
-    def differs(self, mode, chunk, crates, ours):
-        status = subprocess.run([self.compare, mode, chunk / 'inputs', crates, ours], capture_output=True).returncode
-        if status not in (0, 1, 101):  # 101: an answer that is none
-            fail(f'the comparison of reading ended with {status}')
-        return status != 0
-
-    def reports(self, program, work):
-        crates = work / 'crates'
-        for chunk in self.chunks:
-            answer(program, chunk / 'inputs', crates)
-            if self.differs('listed', chunk, crates, chunk / 'ours'):
-                return True
+def is_long_list(kind, data):
+    """Whether a list may be longer than the crate's: then our answer is bounded only."""
+    reader = Reader(data)
+    try:
+        if kind == 13:
+            reader.take(6), reader.buffers(2), reader.clock(), reader.take(8)
+        return kind in (13, 14) and int.from_bytes(reader.take(4), 'big') in range(9, 17)
+    except ValueError:
         return False
 
 
-class Writing:
-    """The cases in chunks, with our answers."""
+def is_other_type(kind, data):
+    code = int.from_bytes(data[4:6], 'big')
+    return kind == 13 and data[:4] == b'\xffTCG' and code in TAGS and code not in ATTEST
 
-    def __init__(self, folder):
-        made = list(cases.unframed((folder / 'writing.cases').read_bytes()))
-        ours = list(writing.answers((folder / 'writing.ours').read_text(encoding='utf-8'), made))
-        self.size, self.chunks = len(made), []
-        for turn in range(WRITING_CHUNKS):
-            own = made[turn::WRITING_CHUNKS]
-            text = ''.join(line + '\n' for lines in ours[turn::WRITING_CHUNKS] for line in lines)
-            self.chunks.append((own, b''.join(case.framed() for case in own), text))
 
-    def reports(self, program, work):
-        for made, stream, ours in self.chunks:
-            (work / 'cases').write_bytes(stream)
-            answer(program, work / 'cases', work / 'crates')
-            if writing.tally(made, (work / 'crates').read_text(encoding='utf-8'), ours).new:
-                return True
+def is_held_by_sixteen(sort, kind, data):
+    return sort != 'place' or kind in ONE_PLACE
+
+
+def is_held_by_published(sort, kind, data):
+    if sort in TYPE_SORTS:
+        return is_other_type(kind, data)
+    return not is_long_list(kind, data) and is_held_by_sixteen(sort, kind, data)
+
+
+def is_held_in_writing(sort, one):
+    """A record that the crate cannot have is compared with nothing. Where one is not read the place is bounded only."""
+    told = (one.crate, one.crate16)
+    if any(line.startswith('no such record: ') for line in told):
         return False
+    return sort != 'place' or any(line[0] == 'm' or line == 'another arm' for line in told)
 
 
-def part_of(path):
-    with open(path, encoding='utf-8') as lines:
-        for number, line in enumerate(lines):
-            if number % PART.get(line.split(' ')[2].strip(), 1) == 0:
-                yield line
+def chosen(r, sort, groups, choose):
+    """A place of that sort: CHOOSE answers one of a group in a part of the answers, taken at random, or None if that part has none."""
+    for _ in range(1000):
+        group = r.choice(groups)
+        found = choose(group)
+        if found:
+            return group, found
+    fail(f'there is no place of the sort {sort}')
 
 
-def framed(line):
-    kind, data, _ = line.split(' ')
-    return (1 + len(data) // 2).to_bytes(2, 'big') + bytes([int(kind)]) + bytes.fromhex(data)
+def shown(sort, old, new):
+    return f'{sort}: {old[:200]!r} is {new[:200]!r}'
 
 
-class Ended(Exception):
-    """A variant did not answer all, which shows nothing of a comparison."""
+def judged(sort, status, said):
+    """What became of a changed place: only that the answers differ counts as reported."""
+    if status == 1:
+        return 'reported'
+    if status == 101 and sort in STOPS and STOPPED in said:
+        return 'stopped'
+    return 'MISSED' if status == 0 else f'ENDED WITH {status}'
 
 
-def answer(program, given, got):
-    with open(given, 'rb') as stream, open(got, 'wb') as out:
-        if subprocess.run([program], stdin=stream, stdout=out, stderr=subprocess.DEVNULL).returncode:
-            raise Ended
+class Trial:
+    """Changed places of our answers, and what became of them."""
+
+    def __init__(self, what):
+        self.what, self.counts, self.sorts = what, Counter(), Counter()
+
+    def take(self, sort, became, old, new):
+        self.counts[became] += 1
+        self.sorts[sort] += 1
+        if became not in ('reported', 'stopped'):
+            print(f'{became} in {self.what}: {shown(sort, old, new)}', flush=True)
+
+    def end(self):
+        good = self.counts['reported'] + self.counts['stopped']
+        bad = sum(self.counts.values()) - good
+        stopped = f', {self.counts["stopped"]} of these as no answer' if self.counts['stopped'] else ''
+        print(f'{good + bad} changes of {self.what}, {len(self.sorts)} sorts of place: {good} reported{stopped}, {bad} not', flush=True)
+        return bad
 
 
-def is_built(text, out, program):
-    return subprocess.run([HERE / 'build.sh', text, out, '0', program], capture_output=True).returncode == 0
+def reading_chunks(reading, program, name):
+    """The chunks with the crate's answers beside ours: the folder, our answers, the inputs."""
+    for chunk in reading.chunks:
+        answer(program, chunk / 'inputs', chunk / name)
+        inputs = [parsed(line) for line in (chunk / 'inputs').read_text(encoding='utf-8').splitlines()]
+        ours = places.of_reading((chunk / 'ours').read_bytes())
+        if len(ours.starts) != len(inputs):
+            fail('we did not answer each input')
+        yield chunk, ours, inputs
+
+
+def try_our_reading(reading, work, program, mode, sorts, each, is_held):
+    """Against the crate's answers by that program."""
+    name = program.parent.name
+    r, trial, chunks = random.Random(name), Trial(f'what we read, against {name}'), list(reading_chunks(reading, program, name))
+    for chunk, _, _ in chunks:
+        if reading.differs(mode, chunk, chunk / name, chunk / 'ours'):
+            fail(f'reading against {name} reports something though nothing is changed')
+    for sort, groups in sorts.items():
+        def choose(group, sort=sort):
+            chunk, ours, inputs = r.choice(chunks)
+            span = ours.chosen(r, group, lambda number: is_held(sort, *inputs[number]))
+            return span and (chunk, ours.text, span)
+        for _ in range(each):
+            group, (chunk, text, (start, end)) = chosen(r, sort, groups, choose)
+            new = places.other(r, group, text[start:end])
+            (work / 'ours').write_bytes(text[:start] + new + text[end:])
+            became = judged(sort, *reading.compared(mode, chunk, chunk / name, work / 'ours'))
+            line = text.rfind(b'\n', 0, start) + 1
+            trial.take(sort, became, text[line:end], text[line:start] + new)
+    return trial.end()
+
+
+def try_our_writing(every, what, each):
+    """Each case is judged alone: as it is nothing may be reported, and with the change something has to be."""
+    r, trial = random.Random(what), Trial(what)
+    chunks = [(part, places.of_writing([one.ours for one in part])) for part in (every[turn::20] for turn in range(20))]
+    for sort, groups in places.WRITING_SORTS.items():
+        def choose(group, sort=sort):
+            part, ours = r.choice(chunks)
+            span = ours.chosen(r, group, lambda number: is_held_in_writing(sort, part[number]))
+            return span and (part, ours, span)
+        for _ in range(each):
+            group, (part, ours, (start, end)) = chosen(r, sort, groups, choose)
+            one, (first, last) = part[ours.number(start)], ours.bounds(ours.number(start))
+            old, text = ours.text[first:last], ours.text
+            new = text[first:start] + places.other(r, group, text[start:end]) + text[end:last]
+            if one.is_reported(old.decode()):
+                fail(f'{what}: a case is reported alone though nothing is changed: {one.case}')
+            trial.take(sort, 'reported' if one.is_reported(new.decode()) else 'MISSED', old, new)
+    return trial.end()
+
+
+def gates(folder, gate):
+    """The gate's cases, the crate's answers to them, and the gate's."""
+    stream = (gate / 'stdin').read_bytes()
+    crates = [subprocess.run([folder / name / 'writing'], input=stream, capture_output=True, check=True).stdout.decode()
+              for name in ('published', 'sixteen')]
+    return asked(list(cases.unframed(stream)), *crates, (gate / 'stdout').read_text(encoding='utf-8'))
 
 
 def tried(change, work, sides):
-    """What reported the change: the comparison's name; else `not built`, `ended early`, or `MISSED`."""
+    """What reported the change: the side's name; else `not built`, `ended early`, or `MISSED`."""
     shutil.copytree(TEXT, work / 'text')
     (work / 'text' / change.path).write_text(change.text, encoding='utf-8')
-    names = sorted(sides, key=lambda name: name != change.first)
+    names = ['claims'] if change.first == 'claims' else sorted({'reading', 'writing'}, key=lambda name: name != change.first)
     try:
         for name in names:
             if not is_built(work / 'text', work / 'built', name):
@@ -129,56 +190,6 @@ def tried(change, work, sides):
         return 'ended early'
     finally:
         shutil.rmtree(work)
-
-
-def changed(r, text, is_compared):
-    """The text with one byte changed, where a letter is compared."""
-    while True:
-        at = r.randrange(len(text))
-        start = text.rfind(b'\n', 0, at) + 1
-        line = text[start:text.index(b'\n', at)]
-        if is_compared(line, line[:at - start].count(b' ')):
-            break
-    old = text[at]
-    new = r.choice([byte for byte in b'0123456789abcdefghkmnrt |' if byte != old])
-    return text[:at] + bytes([new]) + text[at + 1:], f'{line[:100].decode()!r}, {chr(old)!r} is {chr(new)!r} at {at - start}'
-
-
-def is_no_place(line, word):
-    """The place of a refusal is held to the crate's offset in some kinds alone."""
-    return not (b' refused ' in line and word == 5)
-
-
-def try_our_reading(reading, work, sixteen):
-    """Against lists of 16: with these no difference is left that would excuse an answer."""
-    r, missed = random.Random(3), 0
-    for chunk in reading.chunks:
-        answer(sixteen, chunk / 'inputs', chunk / 'sixteen')
-        if reading.differs('same', chunk, chunk / 'sixteen', chunk / 'ours'):
-            fail('reading with lists of 16 reports something though nothing is changed')
-    for _ in range(READING_CHANGES):
-        chunk = r.choice(reading.chunks)
-        other, what = changed(r, (chunk / 'ours').read_bytes(), is_no_place)
-        (work / 'ours').write_bytes(other)
-        if not reading.differs('same', chunk, chunk / 'sixteen', work / 'ours'):
-            missed += 1
-            print(f'MISSED in what we read: {what}')
-    print(f'{READING_CHANGES} changes of a byte of what we read, {missed} missed', flush=True)
-    return missed
-
-
-def try_our_writing(written, program, work):
-    r, missed = random.Random(4), 0
-    for _ in range(WRITING_CHANGES):
-        made, stream, ours = r.choice(written.chunks)
-        (work / 'cases').write_bytes(stream)
-        answer(program, work / 'cases', work / 'crates')
-        other, what = changed(r, ours.encode(), lambda line, word: True)
-        if not writing.tally(made, (work / 'crates').read_text(encoding='utf-8'), other.decode()).new:
-            missed += 1
-            print(f'MISSED in what we write: {what}')
-    print(f'{WRITING_CHANGES} changes of a byte of what we write, {missed} missed', flush=True)
-    return missed
 
 
 def try_text(sides, work):
@@ -195,29 +206,38 @@ def try_text(sides, work):
 
     counts, bad = Counter(), 0
     with ThreadPoolExecutor(max_workers=min(2, os.cpu_count() or 1)) as pool:
-        for change, answer in pool.map(one, enumerate(every)):
-            counts[answer] += 1
-            if answer not in sides:
+        for change, became in pool.map(one, enumerate(every)):
+            counts[became] += 1
+            if became not in sides:
                 bad += 1
-                print(f'{answer}: {change.path}: {change.what}', flush=True)
+                print(f'{became}: {change.path}: {change.what}', flush=True)
     reported = ', '.join(f'{counts[name]} reported by {name}' for name in sides)
-    print(f'{len(every)} changes of the text, {reported}, {bad} not reported', flush=True)
+    print(f'{len(every)} changes of the text: {reported}, {bad} not reported', flush=True)
     return bad
 
 
-def main(folder, ours):
-    folder = Path(folder)
-    work = folder / 'trial'
-    shutil.rmtree(work, ignore_errors=True)
-    work.mkdir()
-    sides = {'reading': Reading(folder, work, ours), 'writing': Writing(folder)}
-    print(f'{sides["reading"].size} inputs, {sides["writing"].size} cases', flush=True)
+def try_unchanged(sides, work):
     for name, side in sides.items():
         if not is_built(TEXT, work / name, name):
             fail(f'{name} is not built')
         if side.reports(work / name / name, work):
-            fail(f'the comparison of {name} reports something though nothing is changed')
-    bad = try_our_reading(sides['reading'], work, folder / 'sixteen/reading') + try_our_writing(sides['writing'], work / 'writing/writing', work)
+            fail(f'{name} reports something though nothing is changed')
+
+
+def main(folder, gate, ours):
+    folder = Path(folder)
+    work = folder / 'trial'
+    shutil.rmtree(work, ignore_errors=True)
+    work.mkdir()
+    sides = {'reading': Reading(folder, work, ours), 'writing': Writing(folder), 'claims': Claims()}
+    print(f'{sides["reading"].size} inputs, {sides["writing"].size} cases', flush=True)
+    try_unchanged(sides, work)
+    sixteen, published = folder / 'sixteen/reading', folder / 'published/reading'
+    bad = try_our_reading(sides['reading'], work, sixteen, 'same', places.READING_SORTS, SIXTEEN_EACH, is_held_by_sixteen)
+    listed = places.READING_SORTS | TYPE_SORTS
+    bad += try_our_reading(sides['reading'], work, published, 'listed', listed, LISTED_EACH, is_held_by_published)
+    bad += try_our_writing(sides['writing'].every, 'what we write', WRITING_EACH)
+    bad += try_our_writing(gates(folder, Path(gate)), 'the gate\'s answers', GATE_EACH)
     bad += try_text(sides, work)
     shutil.rmtree(work)
     return 1 if bad else 0
