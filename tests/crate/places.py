@@ -35,12 +35,12 @@ WORDS = {
 
 
 class Answers:
-    """Answers of ours as one text, and where each begins."""
+    """Answers of ours as one text, where each begins, and what each is an answer to. FOLDER has the files of these, if there are any."""
 
-    def __init__(self, line, text, starts):
-        self.line, self.text, self.starts = line, text, starts
-        if sum(1 for _ in line.finditer(text)) != text.count(b'\n'):
-            raise SystemExit('tests/crate/places.py: an answer of ours has a line of no known form')
+    def __init__(self, line, text, starts, asked, folder=None):
+        self.line, self.text, self.starts, self.asked, self.folder = line, text, starts, asked, folder
+        if sum(1 for _ in line.finditer(text)) != text.count(b'\n') or len(starts) != len(asked):
+            raise SystemExit('tests/crate/places.py: an answer of ours is missing, or has a line of no known form')
 
     def number(self, place):
         """Which answer the place is in, from 0 on."""
@@ -50,20 +50,19 @@ class Answers:
         return self.starts[number], (self.starts + [len(self.text)])[number + 1]
 
     def chosen(self, r, group, is_held):
-        """A place of that group in an answer that is_held says yes to, by its number; None if there is none."""
+        """A place of that group, where what was asked is held; None if there is none."""
         spans = [hit.span(group) for hit in self.line.finditer(self.text) if hit[group] is not None]
         r.shuffle(spans)
-        return next((span for span in spans if is_held(self.number(span[0]))), None)
+        return next((span for span in spans if is_held(self.asked[self.number(span[0])])), None)
 
 
-def of_reading(text):
-    return Answers(READING_LINE, text, [hit.start() for hit in re.finditer(rb'^kind ', text, re.M)])
+def of_reading(text, inputs, folder):
+    return Answers(READING_LINE, text, [hit.start() for hit in re.finditer(rb'^kind ', text, re.M)], inputs, folder)
 
 
-def of_writing(answers):
-    """From a list of lines for each case."""
-    pieces = [''.join(line + '\n' for line in lines).encode() for lines in answers]
-    return Answers(WRITING_LINE, b''.join(pieces), [0, *accumulate(map(len, pieces))][:-1])
+def of_writing(every):
+    pieces = [''.join(line + '\n' for line in one.ours).encode() for one in every]
+    return Answers(WRITING_LINE, b''.join(pieces), [0, *accumulate(map(len, pieces))][:-1], every)
 
 
 def other_word(r, group, old):

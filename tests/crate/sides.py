@@ -99,7 +99,7 @@ class Asked(NamedTuple):
         return bool(writing.tally([self.case], self.crate + '\n', self.crate16 + '\n', ours).new)
 
 
-def asked(made, crate, crate16, ours):
+def all_asked(made, crate, crate16, ours):
     sides = crate.splitlines(), crate16.splitlines(), list(writing.answers(ours, made))
     if any(len(side) != len(made) for side in sides):
         fail('a side of writing did not answer each case')
@@ -111,7 +111,7 @@ class Writing:
 
     def __init__(self, folder):
         texts = [(folder / f'writing.{side}').read_text(encoding='utf-8') for side in ('crate', 'crate16', 'ours')]
-        self.every = asked(list(cases.unframed((folder / 'writing.cases').read_bytes())), *texts)
+        self.every = all_asked(list(cases.unframed((folder / 'writing.cases').read_bytes())), *texts)
         self.size, self.chunks = len(self.every), [self.every[turn::WRITING_CHUNKS] for turn in range(WRITING_CHUNKS)]
 
     def reports(self, program, work):

@@ -21,14 +21,16 @@ from pathlib import Path
 
 import cases
 import places
+import writing
 from changes import changes
 from held import TAGS, Reader
 from inputs import ATTEST
-from sides import HERE, Claims, Ended, Reading, Writing, answer, asked, fail, is_built, parsed
+from sides import HERE, Claims, Ended, Reading, Writing, all_asked, answer, fail, is_built, parsed
 
 TEXT = HERE / 'text'
 # How often each sort of place is changed: 12 sorts of reading, 15 where differences are listed, and 10 of writing.
-SIXTEEN_EACH, LISTED_EACH, WRITING_EACH, GATE_EACH = 10, 4, 9, 6
+SIXTEEN_EACH, LISTED_EACH = 10, 4
+WRITING_EACH = {'what we write': 9, 'the gate\'s answers': 6}
 ONE_PLACE = (1, 3, 5, 6, 7, 8)  # the kinds where the place of a refusal is held, and not only bounded (compare.rs)
 # A kind that is not the input's, and `read` for `refused`, are no answer to the input: there the comparison stops, and says so.
 STOPS, STOPPED = ('kind', 'word'), b'ours, kind '
@@ -52,31 +54,32 @@ def is_other_type(kind, data):
     return kind == 13 and data[:4] == b'\xffTCG' and code in TAGS and code not in ATTEST
 
 
-def is_held_by_sixteen(sort, kind, data):
+def is_held_by_sixteen(sort, asked):
+    kind, _ = asked
     return sort != 'place' or kind in ONE_PLACE
 
 
-def is_held_by_published(sort, kind, data):
+def is_held_by_published(sort, asked):
     if sort in TYPE_SORTS:
-        return is_other_type(kind, data)
-    return not is_long_list(kind, data) and is_held_by_sixteen(sort, kind, data)
+        return is_other_type(*asked)
+    return not is_long_list(*asked) and is_held_by_sixteen(sort, asked)
 
 
-def is_held_in_writing(sort, one):
+def is_held_in_writing(sort, asked):
     """A record that the crate cannot have is compared with nothing. Where one is not read the place is bounded only."""
-    told = (one.crate, one.crate16)
+    told = (asked.crate, asked.crate16)
     if any(line.startswith('no such record: ') for line in told):
         return False
     return sort != 'place' or any(line[0] == 'm' or line == 'another arm' for line in told)
 
 
-def chosen(r, sort, groups, choose):
-    """A place of that sort: CHOOSE answers one of a group in a part of the answers, taken at random, or None if that part has none."""
-    for _ in range(1000):
-        group = r.choice(groups)
-        found = choose(group)
-        if found:
-            return group, found
+def chosen(r, sort, groups, parts, is_held):
+    """A place of that sort at random: its group, the part of our answers that has it, its bounds there."""
+    for _ in range(200):
+        group, part = r.choice(groups), r.choice(parts)
+        span = part.chosen(r, group, lambda asked: is_held(sort, asked))
+        if span:
+            return group, part, span
     fail(f'there is no place of the sort {sort}')
 
 
@@ -113,65 +116,56 @@ class Trial:
         return bad
 
 
-def reading_chunks(reading, program, name):
-    """The chunks with the crate's answers beside ours: the folder, our answers, the inputs."""
-    for chunk in reading.chunks:
-        answer(program, chunk / 'inputs', chunk / name)
-        inputs = [parsed(line) for line in (chunk / 'inputs').read_text(encoding='utf-8').splitlines()]
-        ours = places.of_reading((chunk / 'ours').read_bytes())
-        if len(ours.starts) != len(inputs):
-            fail('we did not answer each input')
-        yield chunk, ours, inputs
+def answers_to(chunk):
+    """Our answers to a chunk of the inputs."""
+    inputs = [parsed(line) for line in (chunk / 'inputs').read_text(encoding='utf-8').splitlines()]
+    return places.of_reading((chunk / 'ours').read_bytes(), inputs, chunk)
 
 
 def try_our_reading(reading, work, program, mode, sorts, each, is_held):
     """Against the crate's answers by that program."""
     name = program.parent.name
-    r, trial, chunks = random.Random(name), Trial(f'what we read, against {name}'), list(reading_chunks(reading, program, name))
-    for chunk, _, _ in chunks:
+    r, trial, parts = random.Random(name), Trial(f'what we read, against {name}'), [answers_to(chunk) for chunk in reading.chunks]
+    for chunk in reading.chunks:
+        answer(program, chunk / 'inputs', chunk / name)
         if reading.differs(mode, chunk, chunk / name, chunk / 'ours'):
             fail(f'reading against {name} reports something though nothing is changed')
     for sort, groups in sorts.items():
-        def choose(group, sort=sort):
-            chunk, ours, inputs = r.choice(chunks)
-            span = ours.chosen(r, group, lambda number: is_held(sort, *inputs[number]))
-            return span and (chunk, ours.text, span)
         for _ in range(each):
-            group, (chunk, text, (start, end)) = chosen(r, sort, groups, choose)
-            new = places.other(r, group, text[start:end])
+            group, part, (start, end) = chosen(r, sort, groups, parts, is_held)
+            text, new = part.text, places.other(r, group, part.text[start:end])
             (work / 'ours').write_bytes(text[:start] + new + text[end:])
-            became = judged(sort, *reading.compared(mode, chunk, chunk / name, work / 'ours'))
+            became = judged(sort, *reading.compared(mode, part.folder, part.folder / name, work / 'ours'))
             line = text.rfind(b'\n', 0, start) + 1
             trial.take(sort, became, text[line:end], text[line:start] + new)
     return trial.end()
 
 
-def try_our_writing(every, what, each):
+def try_our_writing(every, what):
     """Each case is judged alone: as it is nothing may be reported, and with the change something has to be."""
-    r, trial = random.Random(what), Trial(what)
-    chunks = [(part, places.of_writing([one.ours for one in part])) for part in (every[turn::20] for turn in range(20))]
+    r, trial, parts = random.Random(what), Trial(what), [places.of_writing(every[turn::20]) for turn in range(20)]
     for sort, groups in places.WRITING_SORTS.items():
-        def choose(group, sort=sort):
-            part, ours = r.choice(chunks)
-            span = ours.chosen(r, group, lambda number: is_held_in_writing(sort, part[number]))
-            return span and (part, ours, span)
-        for _ in range(each):
-            group, (part, ours, (start, end)) = chosen(r, sort, groups, choose)
-            one, (first, last) = part[ours.number(start)], ours.bounds(ours.number(start))
-            old, text = ours.text[first:last], ours.text
-            new = text[first:start] + places.other(r, group, text[start:end]) + text[end:last]
+        for _ in range(WRITING_EACH[what]):
+            group, part, (start, end) = chosen(r, sort, groups, parts, is_held_in_writing)
+            number = part.number(start)
+            one, (first, last) = part.asked[number], part.bounds(number)
+            old = part.text[first:last]
+            new = part.text[first:start] + places.other(r, group, part.text[start:end]) + part.text[end:last]
             if one.is_reported(old.decode()):
-                fail(f'{what}: a case is reported alone though nothing is changed: {one.case}')
+                fail(f'{what}: a case is reported though nothing is changed: {one.case}')
             trial.take(sort, 'reported' if one.is_reported(new.decode()) else 'MISSED', old, new)
     return trial.end()
 
 
 def gates(folder, gate):
     """The gate's cases, the crate's answers to them, and the gate's."""
-    stream = (gate / 'stdin').read_bytes()
+    stream, ours = (gate / 'stdin').read_bytes(), (gate / 'stdout').read_text(encoding='utf-8')
     crates = [subprocess.run([folder / name / 'writing'], input=stream, capture_output=True, check=True).stdout.decode()
               for name in ('published', 'sixteen')]
-    return asked(list(cases.unframed(stream)), *crates, (gate / 'stdout').read_text(encoding='utf-8'))
+    made = list(cases.unframed(stream))
+    if writing.tally(made, *crates, ours).new:
+        fail('the gate\'s answers are reported though nothing is changed')
+    return all_asked(made, *crates, ours)
 
 
 def tried(change, work, sides):
@@ -236,8 +230,8 @@ def main(folder, gate, ours):
     bad = try_our_reading(sides['reading'], work, sixteen, 'same', places.READING_SORTS, SIXTEEN_EACH, is_held_by_sixteen)
     listed = places.READING_SORTS | TYPE_SORTS
     bad += try_our_reading(sides['reading'], work, published, 'listed', listed, LISTED_EACH, is_held_by_published)
-    bad += try_our_writing(sides['writing'].every, 'what we write', WRITING_EACH)
-    bad += try_our_writing(gates(folder, Path(gate)), 'the gate\'s answers', GATE_EACH)
+    for every, what in zip((sides['writing'].every, gates(folder, Path(gate))), WRITING_EACH):
+        bad += try_our_writing(every, what)
     bad += try_text(sides, work)
     shutil.rmtree(work)
     return 1 if bad else 0
