@@ -23,30 +23,19 @@ import cases
 import places
 import writing
 from changes import changes
-from held import TAGS, Reader
+from held import TAGS, claimed_items
 from inputs import ATTEST
+from judge import LONG, ONE_PLACE, kind_read
 from sides import HERE, Claims, Ended, Reading, Writing, all_asked, answer, fail, is_built, parsed
 
 TEXT = HERE / 'text'
 # How often each sort of place is changed: 12 sorts of reading, 15 where differences are listed, and 10 of writing.
 SIXTEEN_EACH, LISTED_EACH = 10, 4
 WRITING_EACH = {'what we write': 9, 'the gate\'s answers': 6}
-ONE_PLACE = (1, 3, 5, 6, 7, 8)  # the kinds where the place of a refusal is held, and not only bounded (compare.rs)
 # A kind that is not the input's, and `read` for `refused`, are no answer to the input: there the comparison stops, and says so.
 STOPS, STOPPED = ('kind', 'word'), b'ours, kind '
 # Places in a refusal of an attestation type outside the eight, where we answer what is listed and the crate another thing.
 TYPE_SORTS = {f'type {name}': (name,) for name in ('number', 'place', 'value')}
-
-
-def is_long_list(kind, data):
-    """Whether a list may be longer than the crate's: then our answer is bounded only."""
-    reader = Reader(data)
-    try:
-        if kind == 13:
-            reader.take(6), reader.buffers(2), reader.clock(), reader.take(8)
-        return kind in (13, 14) and int.from_bytes(reader.take(4), 'big') in range(9, 17)
-    except ValueError:
-        return False
 
 
 def is_other_type(kind, data):
@@ -60,17 +49,18 @@ def is_held_by_sixteen(sort, asked):
 
 
 def is_held_by_published(sort, asked):
+    """To a list that is too long for the crate our answer is bounded only."""
     if sort in TYPE_SORTS:
         return is_other_type(*asked)
-    return not is_long_list(*asked) and is_held_by_sixteen(sort, asked)
+    return claimed_items(*asked) not in LONG and is_held_by_sixteen(sort, asked)
 
 
 def is_held_in_writing(sort, asked):
-    """A record that the crate cannot have is compared with nothing. Where one is not read the place is bounded only."""
+    """A record that the crate cannot have is compared with nothing. Where one is not read the place is bounded only, but for some kinds."""
     told = (asked.crate, asked.crate16)
     if any(line.startswith('no such record: ') for line in told):
         return False
-    return sort != 'place' or any(line[0] == 'm' or line == 'another arm' for line in told)
+    return sort != 'place' or kind_read(asked.case) in ONE_PLACE or any(line[0] == 'm' or line == 'another arm' for line in told)
 
 
 def chosen(r, sort, groups, parts, is_held):
