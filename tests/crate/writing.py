@@ -122,6 +122,7 @@ def crates(folder, stream):
 
 def compare_made(folder, ours):
     made = list(cases.made(random.Random(7)))
+    cases.require_complete(made)
     stream = b''.join(case.framed() for case in made)
     sides = [*crates(folder, stream), run(ours, stream)]
     for name, text in zip(('writing.crate', 'writing.crate16', 'writing.ours'), sides):
