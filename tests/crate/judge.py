@@ -93,10 +93,18 @@ def judge_told(case, told, ours, count):
     if case.has_index:
         count_asked(told, count)
     if sort in LISTED:
-        count[f'differ {"rebuilt" if sort == "type" else told["by"]}'] += 1
-        return LISTED[sort]
+        return listed(count, LISTED[sort], 'rebuilt' if sort == 'type' else told['by'])
     count[f'{sort} {decided_by(case, told, sort)}'] += 1
-    return LEFT if told['left'] not in (None, '-') else ''
+    if told['left'] in (None, '-'):
+        return ''
+    count[LEFT, told['by']] += 1
+    return LEFT
+
+
+def listed(count, name, who):
+    count[f'differ {who}'] += 1
+    count[name, who] += 1
+    return name
 
 
 def count_asked(told, count):
@@ -150,5 +158,4 @@ def judge(case, line, line16, ours, count):
     if alone['left out']:
         count['left out'] += 1
         return name
-    count['differ text'] += 1
-    return LIST
+    return listed(count, LIST, 'text')

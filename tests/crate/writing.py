@@ -101,8 +101,11 @@ def table(kinds, columns):
 def tell(found, columns):
     table(found.kinds, columns)
     table(found.kinds, ASKED)
+    total = sum(found.kinds.values(), Counter())
     for name, number in sorted(found.classes.items()):
-        print(f'{name}: {number} cases. The shortest:\n{shown(*found.shortest[name])[:900]}\n')
+        text, rebuilt = total[name, 'text'], total[name, 'rebuilt']  # neither, where the crate has no such record
+        by = f', {text} by the text, {rebuilt} with a rebuilt structure' if text + rebuilt else ''
+        print(f'{name}: {number} cases{by}. The shortest:\n{shown(*found.shortest[name])[:900]}\n')
     for text in found.new[:20]:
         print(f'NOT EXPLAINED. {text[:1500]}\n')
     return not found.new
