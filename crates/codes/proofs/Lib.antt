@@ -1,4 +1,5 @@
 pub mod Ranges
+pub mod Bits
 pub mod Values
 pub mod Choices
 pub mod Digests

@@ -7,7 +7,7 @@ use mathlib.Core.List.{List, [], _∷_, _++_}
 use lib.ListN.{length}
 use lib.Dec.{eqb, leb}
 use borrow.Author.Tests.{leb-true, leb-false, eqb-true, eqb-false}
-use Rattle.codes.specs.Codes.{Range, row, numbers, member, within, algorithmRanges, curveRanges, attestationRanges, algorithms, curves, attestations, isAlgorithm, isCurve, isAttestation}
+use Rattle.codes.specs.Codes.{Range, row, numbers, member, within, curveRanges, attestationRanges, algorithms, curves, attestations, isCurve, isAttestation}
 
 -- ---- how many
 
@@ -44,7 +44,7 @@ row-in (suc k) lo n p = go (eqb n lo) refl p (row-in k (lo + 1) n)
     go false e q rest = let (above, below) = rest q in (omega arith, omega arith)
 
 -- and what lies between them is in it
-in-row : (k lo n : ℕ) → lo ≤ n → n < lo + k → member (row k lo) n ≡ true
+pub in-row : (k lo n : ℕ) → lo ≤ n → n < lo + k → member (row k lo) n ≡ true
 in-row zero lo n h g = absurd (omega arith)
 in-row (suc k) lo n h g = go (eqb n lo) refl (in-row k (lo + 1) n)
   where
@@ -87,16 +87,6 @@ or-member (r ∷ rs) n b u =
     ∙ ap (λ c. b || c) (sym (member-append (row (r .hi + 1 - r .lo) (r .lo)) (numbers rs) n))
 
 -- so the code's tests are the list's
-pub algorithm-tests : (n : ℕ) {a b c d e f g h : Bool}
-    → a ≡ within 0x01 0x01 n → b ≡ within 0x03 0x08 n → c ≡ within 0x0A 0x0D n → d ≡ within 0x10 0x10 n
-    → e ≡ within 0x12 0x1D n → f ≡ within 0x20 0x23 n → g ≡ within 0x25 0x2E n → h ≡ within 0x3F 0x44 n
-    → (((((((a || b) || c) || d) || e) || f) || g) || h) ≡ isAlgorithm n
-unfolding isAlgorithm algorithms
-algorithm-tests n pa pb pc pd pe pf pg ph =
-    rw (pa, pb, pc, pd, pe, pf, pg, ph)
-    (or-member algorithmRanges n false
-    (omega arith, (omega arith, (omega arith, (omega arith, (omega arith, (omega arith, (omega arith, (omega arith, tt)))))))))
-
 pub curve-tests : (n : ℕ) {a b c d e : Bool}
     → a ≡ within 0x00 0x05 n → b ≡ within 0x10 0x11 n → c ≡ within 0x20 0x20 n → d ≡ within 0x30 0x32 n → e ≡ within 0x40 0x41 n
     → ((((a || b) || c) || d) || e) ≡ isCurve n
