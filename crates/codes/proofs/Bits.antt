@@ -1,5 +1,5 @@
--- A set of numbers as bits of words is a rule, if the two have the same numbers below a bound and the rule has none from there on. Assumes nothing.
-use Prim.Native.Nat.{ℕ, _+_, _-_, _/_, _%_, _^_, _≤_, _<_}
+-- The numbers below a bound whose bits some words have are those of a rule, if they are the same below the bound and the rule has none from there on. Assumes nothing.
+use Prim.Native.Nat.{ℕ, _-_, _/_, _%_, _^_, _≤_, _<_}
 use native.Mathlib.Omega.{arith}
 use mathlib.Core.Path.{_≡_, refl, sym, ap, _∙_}
 use mathlib.Core.Bool.{Bool, true, false, _||_, _&&_, cond, and-true, and-false}
@@ -18,22 +18,22 @@ abbrev pub inWords : List ℕ → ℕ → Bool
 inWords [] n = false
 inWords (w ∷ ws) n = cond (ltb n 64) (bit w n) (inWords ws (n - 64))
 
--- x before a list, if it is taken
-abbrev pub put : Bool → ℕ → List ℕ → List ℕ
-put true x xs = x ∷ xs
-put false x xs = xs
+-- x before a list, if it is kept; no `cond`, which has the list twice: of words not yet known a computed list would double with each number
+abbrev pub kept : Bool → ℕ → List ℕ → List ℕ
+kept true x xs = x ∷ xs
+kept false x xs = xs
 
 -- those of some numbers that pass a test
 abbrev pub passing : (ℕ → Bool) → List ℕ → List ℕ
 passing p [] = []
-passing p (x ∷ xs) = put (p x) x (passing p xs)
+passing p (x ∷ xs) = kept (p x) x (passing p xs)
 
 in-passing : (p : ℕ → Bool) (xs : List ℕ) (n : ℕ) → member (passing p xs) n ≡ (member xs n && p n)
 in-passing p [] n = refl
 in-passing p (x ∷ xs) n = go (p x) (eqb n x) refl refl (in-passing p xs n)
   where
     go : (t e : Bool) → p x ≡ t → eqb n x ≡ e → member (passing p xs) n ≡ (member xs n && p n)
-        → member (put t x (passing p xs)) n ≡ ((e || member xs n) && p n)
+        → member (kept t x (passing p xs)) n ≡ ((e || member xs n) && p n)
     go true true q s rest = let same = eqb-true n x s in rw (s, same, q)
     go true false q s rest = rw (s, rest)
     go false true q s rest = let same = eqb-true n x s in rw (rest, same, q) (and-false (member xs x))

@@ -86,7 +86,7 @@ or-member (r ∷ rs) n b u =
     ∙ ap (λ c. b || (c || member (numbers rs) n)) (sym (from-within (r .lo) (r .hi) n (u .0)))
     ∙ ap (λ c. b || c) (sym (member-append (row (r .hi + 1 - r .lo) (r .lo)) (numbers rs) n))
 
--- so the code's tests are the list's
+-- so the code's tests of a curve and of an attestation type are their lists
 pub curve-tests : (n : ℕ) {a b c d e : Bool}
     → a ≡ within 0x00 0x05 n → b ≡ within 0x10 0x11 n → c ≡ within 0x20 0x20 n → d ≡ within 0x30 0x32 n → e ≡ within 0x40 0x41 n
     → ((((a || b) || c) || d) || e) ≡ isCurve n
