@@ -1,4 +1,4 @@
--- The numbers below a bound whose bits some words have are those of a rule, if they are the same below the bound and the rule has none from there on. Assumes nothing.
+-- A set of bits is a rule: below a bound the bits of some words are set at the numbers of the rule, which is computed, and from the bound on the rule has none. Assumes nothing.
 use Prim.Native.Nat.{ℕ, _-_, _/_, _%_, _^_, _≤_, _<_}
 use native.Mathlib.Omega.{arith}
 use mathlib.Core.Path.{_≡_, refl, sym, ap, _∙_}
@@ -9,7 +9,7 @@ use borrow.Author.Tests.{eqb-true, ltb-true, ltb-false, lt-ltb, le-ltb, le-leb}
 use Rattle.codes.specs.Codes.{row, member}
 use Rattle.codes.proofs.Ranges.{in-row}
 
--- bit k of a word: the code's shift by k is a division by 2 ^ k
+-- bit k of a word; a shift to the right by k is this division
 abbrev pub bit : (word k : ℕ) → Bool
 bit w k = eqb (w / 2 ^ k % 2) 1
 
@@ -18,12 +18,12 @@ abbrev pub inWords : List ℕ → ℕ → Bool
 inWords [] n = false
 inWords (w ∷ ws) n = cond (ltb n 64) (bit w n) (inWords ws (n - 64))
 
--- x before a list, if it is kept; no `cond`, which has the list twice: of words not yet known a computed list would double with each number
+-- x before a list, if it is kept; a `cond` would hold the list twice, so that a list which is computed before the words are known would double at each number
 abbrev pub kept : Bool → ℕ → List ℕ → List ℕ
 kept true x xs = x ∷ xs
 kept false x xs = xs
 
--- those of some numbers that pass a test
+-- those of some numbers that pass a test; as a list, so that of a wrong word the wrong number is shown
 abbrev pub passing : (ℕ → Bool) → List ℕ → List ℕ
 passing p [] = []
 passing p (x ∷ xs) = kept (p x) x (passing p xs)
@@ -45,28 +45,36 @@ passing-agree p q xs e n m =
     let tested : (r : ℕ → Bool) → member (passing r xs) n ≡ r n = λ r. in-passing r xs n ∙ ap (λ t. t && r n) m in
     sym (tested p) ∙ ap (λ (ys : List ℕ). member ys n) e ∙ tested q
 
--- a list of numbers below a bound has none from there on
-pub none-past : (xs : List ℕ) (b : ℕ) → passing (leb b) xs ≡ [] → (n : ℕ) → b ≤ n → member xs n ≡ false
+-- no number passes p from b on
+abbrev pub NoneFrom : (b : ℕ) → (p : ℕ → Bool) → Type 0
+NoneFrom b p = (n : ℕ) → b ≤ n → p n ≡ false
+
+-- so it is of a list of numbers below b
+pub none-past : (xs : List ℕ) (b : ℕ) → passing (leb b) xs ≡ [] → NoneFrom b (member xs)
 none-past xs b e n h =
     sym (and-true (member xs n)) ∙ ap (λ t. member xs n && t) (sym (le-leb b n h)) ∙ sym (in-passing (leb b) xs n) ∙ ap (λ (ys : List ℕ). member ys n) e
 
--- the numbers below b whose bits the words have are those of the rule p
+-- below b the bits of the words are set at the numbers that pass p
+abbrev pub SameBelow : (ws : List ℕ) → (b : ℕ) → (p : ℕ → Bool) → Type 0
+SameBelow ws b p = passing (inWords ws) (row b 0) ≡ passing p (row b 0)
+
+-- to be below b, with its bit set in the words, is the rule p
 pub record SetIs (ws : List ℕ) (b : ℕ) (p : ℕ → Bool) : Type 0 where
   pub rule : (n : ℕ) → (ltb n b && inWords ws n) ≡ p n
 
--- so it is if they are the same numbers below b, which is computed, and the rule has none from there on
-pub set-is-rule : (ws : List ℕ) (b : ℕ) (p : ℕ → Bool) → passing (inWords ws) (row b 0) ≡ passing p (row b 0) → ((n : ℕ) → b ≤ n → p n ≡ false) → SetIs ws b p
+-- so it is if the two agree below b, which is computed, and the rule has none from there on
+pub set-is-rule : (ws : List ℕ) (b : ℕ) (p : ℕ → Bool) → SameBelow ws b p → NoneFrom b p → SetIs ws b p
 set-is-rule ws b p e none = record { rule = λ n. go n (ltb n b) refl }
   where
     go : (n : ℕ) (t : Bool) → ltb n b ≡ t → (t && inWords ws n) ≡ p n
     go n true h = passing-agree (inWords ws) p (row b 0) e n (in-row b 0 n (omega arith) (omega (arith, ltb-true n b h)))
     go n false h = sym (none n (ltb-false n b h))
 
--- the same, where what follows from it tells the words and the bound: they are then the code's own
-pub given-set {ℓ} : {A : Type ℓ} (ws : List ℕ) (b : ℕ) (p : ℕ → Bool) → (SetIs ws b p → A) → passing (inWords ws) (row b 0) ≡ passing p (row b 0) → ((n : ℕ) → b ≤ n → p n ≡ false) → A
+-- the same, with what follows from it in front: the words and the bound are found there, and so are the program's own
+pub given-set {ℓ} : {A : Type ℓ} (ws : List ℕ) (b : ℕ) (p : ℕ → Bool) → (SetIs ws b p → A) → SameBelow ws b p → NoneFrom b p → A
 given-set ws b p follows e none = follows (set-is-rule ws b p e none)
 
--- ---- where the code finds n's bit
+-- ---- where the program finds n's bit
 
 pub first-word : {w b : ℕ} {ws : List ℕ} {p : ℕ → Bool} → SetIs (w ∷ ws) b p → (n : ℕ) → n < 64 → n < b → bit w n ≡ p n
 first-word s n h g = rw (lt-ltb n _ g, lt-ltb n 64 h) at (s .rule n)
