@@ -12,7 +12,7 @@ head -c 40 "$records/sized" >"$records/less"
 printf '\000' >"$records/byte"
 printf '\000\002\000\020' >"$records/null"
 printf 'kind 1 read 2 tail 0\n0 2 code 16\n' >"$want/null"
-printf 'kind 11 refused 1 at 0 value 2\n' >"$want/empty-public"
+printf 'kind 11 refused 1 at 0 value 2 had 0\n' >"$want/empty-public"
 
 "$list" --help >"$want/help" || :
 try '--help' 0 help '' '"$list" --help'
@@ -34,7 +34,7 @@ check 'the help has each refusal of docs/FORMAT.md' '
         while read -r number name; do count=$((count + 1)) && grep -q "^ *$number [ *]* $name: " "$want/help" || { echo "no $number $name"; exit 1; }; done
         [ "$count" -eq 13 ]
     }'
-check 'the help has the usage, the lines and the statuses' 'grep -q "^usage: cabinet-list " "$want/help" && grep -q "^  kind KIND read SIZE tail LEFT " "$want/help" && grep -q "^  PLACE SIZE code NUMBER " "$want/help" && grep -q "^  PLACE SIZE number NUMBER " "$want/help" && grep -q "^  PLACE SIZE bytes HEX " "$want/help" && grep -q "^  kind KIND refused NUMBER at PLACE value VALUE" "$want/help" && grep -q "^Exit status: 0 read, 1 refused, 2 trouble" "$want/help"'
+check 'the help has the usage, the lines and the statuses' 'grep -q "^usage: cabinet-list " "$want/help" && grep -q "^  kind KIND read SIZE tail LEFT " "$want/help" && grep -q "^  PLACE SIZE code NUMBER " "$want/help" && grep -q "^  PLACE SIZE number NUMBER " "$want/help" && grep -q "^  PLACE SIZE bytes HEX " "$want/help" && grep -q "^  kind KIND refused NUMBER at PLACE value VALUE" "$want/help" && grep -q "^  kind KIND refused 1 at PLACE value VALUE had LEFT" "$want/help" && grep -q "^Exit status: 0 read, 1 refused, 2 trouble" "$want/help"'
 check 'no line of the help is longer than 80' '! grep -n ".\{81\}" "$want/help"'
 
 try '--kind 11' 0 srk '' '"$list" --kind 11 <"$records/public"'
@@ -52,7 +52,7 @@ for kind in HA SYM_DEF KDF_SCHEME KEYEDHASH_SCHEME SIG_SCHEME RSA_SCHEME ECC_SCH
     case $kind in TPM*) ;; *) kind=TPMT_$kind ;; esac
     field=2
     case $number in 13 | 14) field=4 ;; esac
-    echo "kind $number refused 1 at 0 value $field" >"$want/short"
+    echo "kind $number refused 1 at 0 value $field had 1" >"$want/short"
     try "--kind $number" 1 short '' '"$list" --kind "$number" "$records/byte"'
     try "--kind $kind is $number" 1 short '' '"$list" --kind "$kind" "$records/byte"'
 done

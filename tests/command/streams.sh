@@ -5,6 +5,7 @@
 try 'a deposit on standard input' 0 aes '' '"$list" <"$deposits/aes"'
 try 'a real public area' 0 srk '' '"$list" <"$deposits/srk"'
 try 'a refused deposit' 1 cut '' '"$list" <"$deposits/cut"'
+try 'a key that is cut, as README.md shows it' 1 cut-srk '' '"$list" <"$deposits/cut-srk"'
 try 'a deposit with a tail' 0 pcrs '' '"$list" <"$deposits/pcrs"'
 try 'no input' 1 no-input '' '"$list" </dev/null'
 try 'a deposit that is too long' 1 long '' '"$list" <"$deposits/long"'

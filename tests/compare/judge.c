@@ -6,6 +6,15 @@
 #include <stdio.h>
 #include <string.h>
 
+// What the refusal had is said of Short alone, 0 as well.
+static void text_add_refusal(struct text *text, const struct walk *walk)
+{
+    text_add(text, "refused %u at %zu value %llu", walk->number, walk->place, (unsigned long long)walk->value);
+    if (walk->number == SHORT)
+        text_add(text, " had %zu", walk->had);
+    text_add(text, "\n");
+}
+
 // The whole answer that the format gives, as our program prints it.
 static void expected_listing(const struct input *input, struct text *text)
 {
@@ -16,7 +25,7 @@ static void expected_listing(const struct input *input, struct text *text)
     walk_format(&walk, input, &lines);
     text_add(text, "kind %d ", input->kind);
     if (!walk.read) {
-        text_add(text, "refused %u at %zu value %llu\n", walk.number, walk.place, (unsigned long long)walk.value);
+        text_add_refusal(text, &walk);
         return;
     }
     text_add(text, "read %zu tail %zu\n%sagain ", walk.at, input->size - walk.at, lines.chars);

@@ -1,5 +1,7 @@
 #include "ours.h"
 
+#include "walk.h"
+
 #include <stdio.h>
 #include <stdlib.h>
 #include <string.h>
@@ -61,7 +63,7 @@ bool ask_ours(char *const command[], const struct input *inputs, size_t count, s
     return good;
 }
 
-static size_t line_end(const struct answers *answers, size_t place)
+size_t line_end(const struct answers *answers, size_t place)
 {
     const char *found = memchr(answers->chars + place, '\n', answers->size - place);
     return found == NULL ? answers->size : (size_t)(found - answers->chars) + 1;
@@ -108,6 +110,18 @@ static size_t last_line(struct listing listing)
     return start;
 }
 
+// A line that says what was had behind Short, and behind no other refusal.
+static bool is_refusal(const char *head)
+{
+    unsigned number;
+    int end = 0, more = 0;
+    if (sscanf(head, "kind %*d refused %u at %*u value %*u%n", &number, &end) != 1 || end == 0)
+        return false;
+    if (number == SHORT)
+        sscanf(head + end, " had %*u%n", &more);
+    return (more != 0) == (number == SHORT) && head[end + more] == '\n';
+}
+
 bool reply_of_listing(struct listing listing, struct reply *reply)
 {
     static const char word[] = "again ";
@@ -118,7 +132,7 @@ bool reply_of_listing(struct listing listing, struct reply *reply)
     snprintf(head, sizeof head, "%.*s", (int)(listing.size < 63 ? listing.size : 63), listing.chars);
     reply->read = sscanf(head, "kind %d read %zu tail %*u%n", &kind, &reply->consumed, &end) == 2 && end != 0;
     if (!reply->read)
-        return sscanf(head, "kind %d refused %*u at %*u value %*u%n", &kind, &end) == 1 && end != 0;
+        return is_refusal(head);
     size_t start = last_line(listing), body = start + strlen(word);
     return begins_with(listing.chars + start, listing.size - start, word)
         && again_of(listing.chars + body, listing.size - body, reply);

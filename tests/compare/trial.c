@@ -4,9 +4,10 @@
 #include "random.h"
 
 #include <stdio.h>
+#include <stdlib.h>
 #include <string.h>
 
-enum { CHANGES = 60 };
+enum { CHANGES = 80, FORMS = 20 };
 
 static uint64_t unexplained_without(const struct batch *batch, int left_out)
 {
@@ -25,27 +26,69 @@ static bool misses_each_rule(const struct batch *batch)
     return true;
 }
 
-// A place behind the next such word from anywhere in our answers; with no word, anywhere.
+// Behind the next such word from anywhere in our answers; with no word, anywhere.
 static size_t place_behind(const struct answers *answers, const char *word, struct random *random)
 {
     size_t start = random_below(random, answers->size);
     const char *found = memmem(answers->chars + start, answers->size - start, word, strlen(word));
-    size_t behind = found == NULL ? 0 : (size_t)(found - answers->chars) + strlen(word);
-    return behind + random_below(random, answers->size - behind < 20 ? answers->size - behind : 20);
+    if (found == NULL) // the last one is passed
+        found = memmem(answers->chars, answers->size, word, strlen(word));
+    return found == NULL ? 0 : (size_t)(found - answers->chars) + strlen(word);
 }
 
-// A digit is changed to another digit, mostly.
+// A digit is changed to another digit, mostly. What was had is changed in its first digit: behind it is the next line.
 static bool sees_each_change(struct batch *batch, uint64_t seed)
 {
-    static const char *const words[] = {"", "\nkind ", "\nagain "};
+    static const struct {
+        const char *word;
+        size_t reach;
+    } spots[] = {{"", 20}, {"\nkind ", 20}, {"\nagain ", 20}, {" had ", 1}};
     struct random random = random_row(seed, UINT64_MAX);
     for (int i = 0; i < CHANGES; i++) {
-        size_t at = place_behind(&batch->answers, words[i % 3], &random);
+        size_t at = place_behind(&batch->answers, spots[i % 4].word, &random), left = batch->answers.size - at;
+        at += random_below(&random, left < spots[i % 4].reach ? left : spots[i % 4].reach);
         batch->answers.chars[at] ^= 1;
         uint64_t seen = unexplained_without(batch, NO_RULE);
         batch->answers.chars[at] ^= 1;
         if (seen == 0) {
             printf("trial: nothing was reported when byte %zu of our answers was changed\n", at);
+            return false;
+        }
+    }
+    return true;
+}
+
+// Our answers with so many bytes at a place replaced by a text.
+static uint64_t unexplained_with(struct batch *batch, size_t at, size_t size, const char *text)
+{
+    struct answers whole = batch->answers, changed = {malloc(whole.size + strlen(text)), whole.size - size + strlen(text)};
+    if (changed.chars == NULL) {
+        fputs("compare: no memory for the trial\n", stderr);
+        exit(2);
+    }
+    memcpy(changed.chars, whole.chars, at);
+    memcpy(changed.chars + at, text, strlen(text));
+    memcpy(changed.chars + at + strlen(text), whole.chars + at + size, whole.size - at - size);
+    batch->answers = changed;
+    uint64_t seen = unexplained_without(batch, NO_RULE);
+    batch->answers = whole;
+    free(changed.chars);
+    return seen;
+}
+
+// A Short that does not say what it had, and other refusals that say it.
+static bool sees_each_form(struct batch *batch, uint64_t seed)
+{
+    static const char *const others[] = {" refused 2 ", " refused 3 ", " refused 4 ", " refused 5 ", " refused 6 "};
+    const struct answers *answers = &batch->answers;
+    struct random random = random_row(seed, UINT64_MAX - 1);
+    for (int i = 0; i < FORMS; i++) {
+        bool is_short = i % 2 == 0;
+        size_t at = place_behind(answers, is_short ? " had" : others[i / 2 % 5], &random);
+        size_t end = line_end(answers, at) - 1, start = is_short ? at - strlen(" had") : end;
+        if (at == 0 || unexplained_with(batch, start, end - start, is_short ? "" : " had 0") == 0) {
+            printf("trial: nothing was reported when ' had' was %s at byte %zu of our answers\n",
+                is_short ? "left out" : "put in", at);
             return false;
         }
     }
@@ -58,9 +101,11 @@ int try_comparer(struct batch *batch, uint64_t seed, char *const command[])
     make_batch(batch, seed, 0, BATCH);
     if (!answer_batch(batch, command))
         return 2;
-    if (judge_batch(batch, NO_RULE, &tally, true) != 0 || !misses_each_rule(batch) || !sees_each_change(batch, seed))
+    if (judge_batch(batch, NO_RULE, &tally, true) != 0 || !misses_each_rule(batch) || !sees_each_change(batch, seed)
+        || !sees_each_form(batch, seed))
         return 1;
-    printf("trial with %d inputs: reported without each of %d rules, and for each of %d changed bytes of our answers\n",
-        BATCH, rule_count, CHANGES);
+    printf("trial with %d inputs: reported without each of %d rules, for each of %d changed bytes of our answers, and for "
+           "each of %d refusals with ' had' left out or put in\n",
+        BATCH, rule_count, CHANGES, FORMS);
     return 0;
 }

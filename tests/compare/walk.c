@@ -2,21 +2,26 @@
 
 #include <inttypes.h>
 
-enum { SHORT = 1, UNKNOWN_CODE, NO_ARM, TOO_LONG, TOO_MANY_ITEMS, BAD_VALUE };
-
 static bool walk_row(struct walk *walk, const struct field *row);
+
+// How many bytes the record has from a place on: past its end none.
+static size_t bytes_from(const struct input *input, size_t place)
+{
+    return place < input->size ? input->size - place : 0;
+}
 
 static bool refuse(struct walk *walk, unsigned number, uint64_t value)
 {
     walk->number = number;
     walk->place = walk->at;
     walk->value = value;
+    walk->had = number == SHORT ? bytes_from(walk->input, walk->place) : 0;
     return false;
 }
 
 static bool is_there(struct walk *walk, size_t size)
 {
-    return walk->input->size - walk->at >= size || refuse(walk, SHORT, size);
+    return bytes_from(walk->input, walk->at) >= size || refuse(walk, SHORT, size);
 }
 
 static uint64_t number_here(const struct walk *walk, size_t width)

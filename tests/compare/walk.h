@@ -6,6 +6,9 @@
 #include "rules.h"
 #include "text.h"
 
+// The refusals that a reader can give, by their numbers.
+enum { SHORT = 1, UNKNOWN_CODE, NO_ARM, TOO_LONG, TOO_MANY_ITEMS, BAD_VALUE };
+
 struct walk {
     const struct input *input;
     bool by_rules;
@@ -16,6 +19,7 @@ struct walk {
     unsigned number; // of the refusal, with its place and value
     size_t place;
     uint64_t value;
+    size_t had; // behind SHORT the bytes from its place on; else 0
     struct text *lines; // a line for each field; NULL when they are not wanted
 };
 

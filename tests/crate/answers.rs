@@ -5,12 +5,13 @@ use std::io::{BufRead, BufReader, Lines};
 
 pub enum Ours {
     Read { consumed: usize, tail: usize, fields: String, again: String },
-    Refused { number: u64, place: usize, value: u64 },
+    /// `had` is what the line says behind the value, if it says anything there.
+    Refused { number: u64, place: usize, value: u64, had: Option<usize> },
 }
 
 pub enum Crates<'a> {
     Read { consumed: usize, written: &'a str, who: &'a str, fields: &'a str },
-    Refused { who: &'a str, name: &'a str, offset: usize, value: u64 },
+    Refused { who: &'a str, name: &'a str, offset: usize, value: u64, had: usize },
 }
 
 pub fn lines(path: &str) -> Lines<BufReader<File>> {
@@ -37,7 +38,10 @@ impl OurAnswers {
         let words: Vec<&str> = first.split(' ').collect();
         let ours = match words[..] {
             ["kind", k, "refused", n, "at", place, "value", value] if k == kind => {
-                Ours::Refused { number: number(n), place: number(place), value: number(value) }
+                Ours::Refused { number: number(n), place: number(place), value: number(value), had: None }
+            }
+            ["kind", k, "refused", n, "at", place, "value", value, "had", had] if k == kind => {
+                Ours::Refused { number: number(n), place: number(place), value: number(value), had: Some(number(had)) }
             }
             ["kind", k, "read", consumed, "tail", tail] if k == kind => self.read(number(consumed), number(tail)),
             _ => panic!("ours, kind {kind}: {first}"),
@@ -64,8 +68,8 @@ pub fn crates_answer(line: &str) -> (Crates<'_>, Vec<&str>) {
     let words: Vec<&str> = front.split(' ').collect();
     let (answer, notes) = match words[..] {
         ["ok", consumed, written, who, ref notes @ ..] => (Crates::Read { consumed: number(consumed), written, who, fields }, notes),
-        ["err", who, name, offset, value, ref notes @ ..] => {
-            (Crates::Refused { who, name, offset: number(offset), value: number(value) }, notes)
+        ["err", who, name, offset, value, had, ref notes @ ..] => {
+            (Crates::Refused { who, name, offset: number(offset), value: number(value), had: number(had) }, notes)
         }
         _ => panic!("the crate: {line}"),
     };

@@ -1,7 +1,7 @@
 """Single changes of the published text, each of which a comparison or a claim has to report.
 
-Not tried is what nothing here compares: `available` of an UnexpectedEnd, the calls of 2.9 in docs/DIFFERENCES.md, and what can only come up
-on a 16-bit machine or behind another test that says the same.
+Not tried is what nothing here compares: `available` of an UnexpectedEnd that no kind comes to (lib.rs:166, list.rs:65 and 119), the calls of 2.9
+in docs/DIFFERENCES.md, and what can only come up on a 16-bit machine or behind another test that says the same.
 """
 
 import re
@@ -30,6 +30,7 @@ READING = {
         ('if tag == TpmAlgId::Null {', 'if tag == TpmAlgId::Rsa {'),
         ('if buf.len() < digest_size {', 'if buf.len() <= digest_size {'),
         ('needed: digest_size', 'needed: digest_size + 1'),
+        ('available: buf.len(),', 'available: digest_size,'), ('available: buf.len(),', 'available: 0,'),
         ('value: u64::from(tag.value())', 'value: u64::from(tag.value()) + 1'),
     ],
     'data/tpmt.rs': [
@@ -54,6 +55,7 @@ READING = {
         ('T::SIZE * CAPACITY', 'T::SIZE * 2'),
         ('if item_count > CAPACITY {', 'if item_count >= CAPACITY {'), ('actual: item_count', 'actual: item_count + 1'),
         ('needed: TPML_COUNT_LEN,', 'needed: TPML_COUNT_LEN + 1,'),
+        ('needed: TPML_COUNT_LEN,\n                available: buf.len(),', 'needed: TPML_COUNT_LEN,\n                available: 0,'),
         ('if buf.len() > wire_len {', 'if buf.len() > wire_len + 1 {'),
         ('actual: buf.len() - wire_len,', 'actual: buf.len(),'),
     ],

@@ -66,12 +66,21 @@ fn no_arm(offset: usize, value: u64) -> Read {
     Err(TpmError::VariantNotAvailable { offset, value })
 }
 
+fn cut(offset: usize, needed: usize, available: usize) -> Read {
+    Err(TpmError::UnexpectedEnd { offset, needed, available })
+}
+
 fn too_many(actual: usize) -> Read {
     Err(TpmError::TooManyItems { offset: 0, limit: 8, actual })
 }
 
 fn fault(fault: Fault, offset: usize, value: usize) -> Read {
     Err(TpmError::rebuilt(fault, offset, value))
+}
+
+/// A leaf that is cut.
+fn end(offset: usize, needed: usize, available: usize) -> Read {
+    Err(TpmError::end(offset, needed, available))
 }
 
 /// The four calls that walk a list's items: `unmarshal`, the field view, and the two typed views.
@@ -104,7 +113,7 @@ fn lists(t: &mut Tally) {
     t.rebuilt("2.1 items of 00000001 000B00 FF: the first, and an end", items("00000001 000b00 ff"), vec![item()]);
     let eight = format!("00000008{}", "000b00".repeat(8));
     t.rebuilt("2.1 eight items: read by all calls that walk them", walkers(&eight), [28; 4].map(|n| consumed(n, "")));
-    let short: [Read; 4] = std::array::from_fn(|_| fault(Fault::End, 0, 2));
+    let short: [Read; 4] = std::array::from_fn(|_| end(0, 2, 0));
     t.rebuilt("2.1, 2.4 00000001: refused by all calls that walk the items, with the item's own error, not moved", walkers("00000001"), short);
     let bad: [Read; 4] = std::array::from_fn(|_| fault(Fault::Code, 0, 2));
     t.rebuilt("1 a walk ends at its first bad item: 00000003 000B00 0002", walkers("00000003 000b00 0002"), bad);
@@ -134,6 +143,19 @@ fn tails(t: &mut Tally) {
     t.rebuilt("2.2 Tpml::validate_items refuses a tail, 00000001 000B00 FF", whole("00000001 000b00 ff"), trailing(7));
 }
 
+/// `available`: the bytes from the field's place to the end of what was handed in. No call moves it with the offset.
+fn available(t: &mut Tally) {
+    let digest = |count| format!("0004{}", "00".repeat(count));
+    t.text("2.3 kind 1, 0004 and 19 bytes as a view: UnexpectedEnd, 0, 20, 19", view::<TpmtHa>(&digest(19)), cut(0, 20, 19));
+    t.text("2.3 kind 1, 0004 as a view: available 0", view::<TpmtHa>("0004"), cut(0, 20, 0));
+    t.rebuilt("2.3 kind 1, 0004 and 19 bytes by unmarshal: the offset is moved, available is not", read::<TpmtHa>(&digest(19)), cut(2, 20, 19));
+    let hmac = format!("0005{}", digest(3));
+    t.rebuilt("2.3 kind 10, 0005 0004 and 3 bytes: available 3", read::<TpmtSignature>(&hmac), cut(4, 20, 3));
+    let whole = |text| Tpml::<8>::cast(&bytes(text)).map(|list| (list.len(), String::new()));
+    t.text("2.3 000000 by Tpml::cast: UnexpectedEnd, 0, 4, 3", whole("000000"), cut(0, 4, 3));
+    t.text("2.3 no bytes by Tpml::cast: available 0", whole(""), cut(0, 4, 0));
+}
+
 fn places(t: &mut Tally) {
     t.text("2.4 kind 2, 0001: offset 0, value 1", read::<TpmtSymDef>("0001"), no_arm(0, 1));
     t.rebuilt("2.4 kind 11, 0004 000B 00000000 0000: offset 0, value 4", read::<TpmtPublic>("0004 000b 00000000 0000"), no_arm(0, 4));
@@ -159,9 +181,9 @@ fn places(t: &mut Tally) {
 fn settled(t: &mut Tally) {
     t.text("1 reading stops after a Null cipher", read::<TpmtSymDef>("0010 0080 0043"), consumed(2, "00800043"));
     t.text("1, 3 Xor has a mode: 000A 000B 0043, 6 bytes", read::<TpmtSymDef>("000a 000b 0043"), consumed(6, ""));
-    t.rebuilt("1, 3 Xor has a mode: 000A 000B is short", read::<TpmtSymDef>("000a 000b"), fault(Fault::End, 0, 2));
+    t.rebuilt("1, 3 Xor has a mode: 000A 000B is short", read::<TpmtSymDef>("000a 000b"), end(0, 2, 0));
     t.rebuilt("1 kind 11: the fields ahead of an arm are judged first", read::<TpmtPublic>("0004 0002"), fault(Fault::Code, 0, 2));
-    t.rebuilt("1 kind 12: the fields ahead of an arm are judged first", read::<TpmtSensitive>("0010 0000"), fault(Fault::End, 0, 2));
+    t.rebuilt("1 kind 12: the fields ahead of an arm are judged first", read::<TpmtSensitive>("0010 0000"), end(0, 2, 0));
     let longest = format!("000d{}", "00".repeat(64));
     t.rebuilt("1 kind 1, 000D and 64 bytes: read, 66 bytes", read::<TpmtHa>(&longest), consumed(66, ""));
     t.rebuilt("3 kind 5, 001A 000B 0000: Ecdaa has no count", read::<TpmtSigScheme>("001a 000b 0000"), consumed(4, "0000"));
@@ -308,7 +330,7 @@ fn sizes(t: &mut Tally) {
 
 fn main() {
     let mut t = Tally::default();
-    for part in [lists, tails, places, settled, arms, wrong_arms, room, owned, sizes] {
+    for part in [lists, tails, available, places, settled, arms, wrong_arms, room, owned, sizes] {
         part(&mut t);
     }
     println!("{} claims hold by the text, {} more with a rebuilt module, {} fail", t.text, t.rebuilt, t.failed);

@@ -18,6 +18,8 @@ use words::{number_of, unhex};
 /// Kinds whose arm has one field at most: there the crate's offsets are our places (docs/DIFFERENCES.md, 2.4).
 const ONE_PLACE: [u32; 6] = [1, 3, 5, 6, 7, 8];
 
+const SHORT: u64 = 1;
+
 /// What of two records that were read is not alike.
 fn unlike_records(input: &str, ours: &Ours, crates: &Crates) -> Vec<&'static str> {
     let (Ours::Read { consumed, tail, fields, again }, Crates::Read { consumed: n, written, who, fields: f }) = (ours, crates) else {
@@ -44,12 +46,22 @@ fn fits(kind: u32, input: &str, place: usize, offset: usize) -> bool {
     if ONE_PLACE.contains(&kind) { place == offset } else { (offset..=input.len() / 2).contains(&place) }
 }
 
+/// Short says how many bytes the input has from its place on; no other refusal says anything of that.
+fn wrong_had(input: &str, ours: &Ours) -> Option<String> {
+    let Ours::Refused { number, place, had, .. } = ours else { return None };
+    let there = (*number == SHORT).then(|| (input.len() / 2).saturating_sub(*place));
+    (*had != there).then(|| "ours does not say of Short, and of Short alone, how many bytes the input has from its place on".to_string())
+}
+
 /// Nothing, if the answers are alike; else in what they are not.
 fn unlike(kind: u32, input: &str, ours: &Ours, crates: &Crates) -> Option<String> {
     match (ours, crates) {
-        (Ours::Refused { number, place, value }, Crates::Refused { name, offset, value: v, .. }) => {
+        (Ours::Refused { number, place, value, had }, Crates::Refused { name, offset, value: v, had: h, .. }) => {
             if *number != number_of(name) || value != v {
                 return Some("both refuse, for another fault".to_string());
+            }
+            if had.unwrap_or(0) != *h {
+                return Some("both refuse, with another number of bytes there".to_string());
             }
             (!fits(kind, input, *place, *offset)).then(|| "both refuse, at another place".to_string())
         }
@@ -92,10 +104,10 @@ fn main() {
             tables.new_difference(&format!("the crate disagrees with itself: {note}"), kind, input, &first, &answer);
         }
         let class = if has_classes { class(kind, &unhex(input).expect("hex")) } else { None };
-        let how = match &class {
+        let how = wrong_had(input, &ours).or_else(|| match &class {
             Some(class) => (!class.holds(&ours, &crates)).then(|| format!("not as {} has it", class.name)),
             None => unlike(kind, input, &ours, &crates),
-        };
+        });
         match (how, class) {
             (Some(how), _) => tables.new_difference(&how, kind, input, &first, &answer),
             (None, Some(class)) => tables.listed(&Difference { name: class.name, kind, sort, input, ours: &first, crates: &answer }, &ours, &crates),

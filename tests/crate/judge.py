@@ -6,6 +6,7 @@ from collections import Counter
 from held import INSIDE, Held, claimed_items
 
 NUMBERS = {'UnexpectedEnd': 1, 'End': 1, 'Code': 2, 'VariantNotAvailable': 3, 'Length': 4, 'TooManyItems': 5, 'Value': 6, 'TrailingData': 11}
+SHORT = 1  # the one refusal that says how many bytes there were
 TOLD = re.compile(r'm(?P<flags>[01]*) (?P<by>text|rebuilt) (?:again (?P<written>[0-9a-f]+)'
                   r'|err (?P<who>text|rebuilt) (?P<name>\w+) (?P<offset>\d+) (?P<value>\d+) (?P<left>-|[0-9a-f]+))'
                   r'(?: tail (?P<tail>\S+) field (?:none|(?P<field_by>text|rebuilt) (?P<field>\S+)) item (?P<item>\S+))?')
@@ -26,6 +27,7 @@ class Wrong(Exception):
 
 
 def refusal(kind, number, place, value):
+    """The line of a refusal other than Short."""
     return f'kind {kind} refused {number} at {place} value {value}'
 
 
@@ -115,11 +117,13 @@ def count_asked(told, count):
 
 def judge_unread(case, words, ours, count):
     """A case whose first or second record neither side reads."""
-    which, who, name, offset, value = words
+    which, who, name, offset, value, had = words
     begins = case.first_at if which == 'first' else case.second_at
-    found = re.fullmatch(rf'kind {case.kind} refused (\d+) at (\d+) value (\d+)', ours[0]) if len(ours) == 1 else None
+    found = re.fullmatch(rf'kind {case.kind} refused (\d+) at (\d+) value (\d+)(?: had (\d+))?', ours[0]) if len(ours) == 1 else None
     hold('our refusal', found and (int(found[1]), found[3]), (NUMBERS[name], value))
-    place, least = int(found[2]), begins + int(offset)
+    place, least, is_short = int(found[2]), begins + int(offset), NUMBERS[name] == SHORT
+    hold('what our refusal had', found[4], had if is_short else None)
+    hold('what our refusal had, by its place', int(had), max(0, len(case.records) - place) if is_short else 0)
     exact = kind_read(case) in ONE_PLACE or name == 'TrailingData'
     hold('the place of our refusal', place == least if exact else least <= place <= max(least, len(case.records)), True)
     count['unread ' + who] += 1
@@ -131,7 +135,7 @@ def judge_line(case, line, ours, count):
     if told:
         return judge_told(case, told, ours, count)
     words = line.split(' ')
-    if words[0] == 'refused' and len(words) == 6:
+    if words[0] == 'refused' and len(words) == 7:
         return judge_unread(case, words[1:], ours, count)
     if line == 'another arm':
         hold('our answer', ours, [refusal(case.kind, 12, 0, case.kind)])
@@ -152,7 +156,7 @@ def judge(case, line, line16, ours, count):
     claimed = claimed_items(kind_read(case), case.first)
     if claimed not in LONG:
         return judge_line(case, line, ours, count)
-    hold('the crate\'s refusal of a list', line, f'refused first text TooManyItems 0 {claimed}')
+    hold('the crate\'s refusal of a list', line, f'refused first text TooManyItems 0 {claimed} 0')
     alone = Counter()
     name = judge_line(case, line16, ours, alone)
     if alone['left out']:

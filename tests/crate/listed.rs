@@ -8,11 +8,11 @@ const QUOTE: u64 = 0x8018;
 /// The structure tags that the rebuilt `TpmSt` has besides the eight attestation types.
 const OTHER_TAGS: [u64; 10] = [0xc4, 0x8000, 0x8001, 0x8002, 0x8021, 0x8022, 0x8023, 0x8024, 0x8025, 0x8029];
 
-/// A fault of a rebuilt leaf, and its value.
-type Fault = (&'static str, u64);
+/// A refusal of the crate: its name or fault, its value, and how many bytes were there where something is cut; else 0.
+type Fault = (&'static str, u64, usize);
 
 fn number(input: &[u8], at: usize, width: usize) -> Result<u64, Fault> {
-    let bytes = input.get(at..at + width).ok_or(("End", width as u64))?;
+    let bytes = input.get(at..at + width).ok_or(("End", width as u64, input.len().saturating_sub(at)))?;
     Ok(bytes.iter().fold(0, |value, byte| value << 8 | u64::from(*byte)))
 }
 
@@ -29,11 +29,11 @@ fn arm_place(input: &[u8]) -> Result<usize, Fault> {
     for limit in [66, 66] {
         let length = number(input, at, 2)?;
         if length > limit {
-            return Err(("Length", length));
+            return Err(("Length", length, 0));
         }
         at += 2 + length as usize;
         if at > input.len() {
-            return Err(("End", length));
+            return Err(("End", length, input.len() - (at - length as usize)));
         }
     }
     for width in [8, 4, 4] {
@@ -42,7 +42,7 @@ fn arm_place(input: &[u8]) -> Result<usize, Fault> {
     }
     let safe = number(input, at, 1)?;
     if safe > 1 {
-        return Err(("Value", safe));
+        return Err(("Value", safe, 0));
     }
     number(input, at + 1, 8)?;
     Ok(at + 9)
@@ -58,7 +58,7 @@ enum Here {
 /// A class of difference, and what each side has to answer to this input of it.
 pub struct Listed {
     pub name: &'static str,
-    crates: (&'static str, &'static str, u64),
+    crates: (&'static str, Fault),
     here: Here,
 }
 
@@ -70,15 +70,15 @@ fn capacity(kind: u32, input: &[u8]) -> Option<Listed> {
         _ => return None,
     };
     let count = number(input, list, 4).ok().filter(|count| (9..=16).contains(count))?;
-    Some(Listed { name: "2.1, a list of 9 to 16 items", crates: ("text", "TooManyItems", count), here: Here::From(list + 4) })
+    Some(Listed { name: "2.1, a list of 9 to 16 items", crates: ("text", ("TooManyItems", count, 0)), here: Here::From(list + 4) })
 }
 
 /// 2.5: we refuse the type where it stands; the crate at the first field behind it that has a fault, or in the union.
 fn other_type(kind: u32, input: &[u8]) -> Option<Listed> {
     let value = attestation_type(kind, input).filter(|tag| OTHER_TAGS.contains(tag))?;
     let crates = match arm_place(input) {
-        Ok(_) => ("text", "VariantNotAvailable", value),
-        Err((fault, of)) => ("rebuilt", fault, of),
+        Ok(_) => ("text", ("VariantNotAvailable", value, 0)),
+        Err(fault) => ("rebuilt", fault),
     };
     let here = Here::Refused { number: 2, place: 4, value };
     Some(Listed { name: "2.5, an attestation type outside the eight", crates, here })
@@ -95,9 +95,9 @@ impl Listed {
         let here = match (&self.here, ours) {
             (Here::From(_), Ours::Read { .. }) => true,
             (Here::From(first), Ours::Refused { number, place, .. }) => matches!(number, 1 | 2 | 4) && place >= first,
-            (Here::Refused { number: n, place: p, value: v }, Ours::Refused { number, place, value }) => (n, p, v) == (number, place, value),
+            (Here::Refused { number: n, place: p, value: v }, Ours::Refused { number, place, value, .. }) => (n, p, v) == (number, place, value),
             _ => false,
         };
-        here && matches!(crates, Crates::Refused { who, name, value, .. } if (*who, *name, *value) == self.crates)
+        here && matches!(crates, Crates::Refused { who, name, value, had, .. } if (*who, (*name, *value, *had)) == self.crates)
     }
 }

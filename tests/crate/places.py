@@ -11,22 +11,25 @@ DIGITS, HEX, FLAGS = b'0123456789', b'0123456789abcdef', b'01'
 
 READING_LINE = re.compile(
     rb'^(?:kind (?P<kind>\d+) (?P<answer>read|refused) '
-    rb'(?:(?P<consumed>\d+) tail (?P<tail>\d+)|(?P<number>\d+) at (?P<place>\d+) value (?P<value>\d+))'
+    rb'(?:(?P<consumed>\d+) tail (?P<tail>\d+)|(?P<number>\d+) at (?P<place>\d+) value (?P<value>\d+)(?: had (?P<had>\d+))?)'
     rb'|(?P<field_place>\d+) (?P<field_size>\d+) (?P<what>code|number|bytes) '
     rb'(?:-|(?<=bytes )(?P<field_bytes>[0-9a-f]+)|(?<!bytes )(?P<field_value>\d+))'
     rb'|again (?P<again_bytes>[0-9a-f]+))\n', re.M)
 WRITING_LINE = re.compile(
     rb'^(?P<word>m|again|kind|tail|field|item) '
-    rb'(?:(?<=m )(?P<flag>[01])|(?<=kind )(?P<kind>\d+) refused (?P<number>\d+) at (?P<place>\d+) value (?P<value>\d+)'
+    rb'(?:(?<=m )(?P<flag>[01])'
+    rb'|(?<=kind )(?P<kind>\d+) refused (?P<number>\d+) at (?P<place>\d+) value (?P<value>\d+)(?: had (?P<had>\d+))?'
     rb'|(?<=again )(?P<again_bytes>[0-9a-f]+)|(?<=tail )(?P<tail_bytes>[0-9a-f]+)|(?<=field )(?P<field_bytes>[0-9a-f]+)'
     rb'|(?<=item )(?P<item_bytes>[0-9a-f]+)|-)\n', re.M)
 
 # The sorts, each with the groups of a line that it has; each sort is chosen as often as the others.
 READING_SORTS = {
-    name: (name,) for name in ('kind', 'consumed', 'tail', 'number', 'place', 'value', 'field_place', 'field_size', 'field_value', 'field_bytes',
-                               'again_bytes')} | {'word': ('answer', 'what')}
+    name: (name,) for name in ('kind', 'consumed', 'tail', 'number', 'place', 'value', 'had', 'field_place', 'field_size', 'field_value',
+                               'field_bytes', 'again_bytes')} | {'word': ('answer', 'what')}
 WRITING_SORTS = {
     name: (name,) for name in ('flag', 'kind', 'number', 'place', 'value', 'again_bytes', 'tail_bytes', 'field_bytes', 'item_bytes', 'word')}
+# A record that is cut is among the gate's cases alone.
+GATE_SORTS = WRITING_SORTS | {'had': ('had',)}
 WORDS = {
     'answer': (b'read', b'refused'),
     'what': (b'code', b'number', b'bytes'),

@@ -1,10 +1,10 @@
 //! What the crate's readers answer. Reads lines `KIND HEX` (more words behind these are let be), answers each with one line:
 //!
 //!     ok CONSUMED WRITTEN WHO|PLACE SIZE WORD VALUE|...
-//!     err WHO NAME OFFSET VALUE
+//!     err WHO NAME OFFSET VALUE HAD
 //!
 //! WRITTEN is what `marshal` writes again, in hex. Of a record, WHO has a letter for each field (fields.rs); of a refusal it is `text` or
-//! `rebuilt` (words.rs), and VALUE is what our refusal carries.
+//! `rebuilt` (words.rs), VALUE is what our refusal carries, and HAD is `available` of what ends too early, else 0.
 //!
 //! The answer of `unmarshal` is also held to the crate's other calls. A word behind `!`, ahead of the fields, says which disagreed: `len`
 //! (`TpmSized::len` is not the bytes consumed), `size` (longer than `TpmSized::SIZE`), `marshal` (refused, or other bytes than were read), `again`
@@ -21,16 +21,16 @@ use tpm2_protocol::{
     basic::{TpmList, Tpml},
     data::*,
 };
-use words::{hex, number_of, parts, refusal, unhex};
+use words::{Parts, hex, number_of, parts, refusal, unhex};
 
 /// How many bytes the borrowed view takes, for types that have one.
 type View = Option<fn(&[u8]) -> TpmResult<usize>>;
 
-/// A refusal by its number and value: an offset is moved in some calls and not in others, and in a view the text may refuse what a rebuilt
-/// module refuses in `unmarshal`.
-fn essence(error: TpmError) -> (u64, u64) {
-    let (_, name, _, value) = parts(error);
-    (number_of(&name), value)
+/// A refusal by its number, its value and what it had: an offset is moved in some calls and not in others, and in a view the text may refuse what
+/// a rebuilt module refuses in `unmarshal`.
+fn essence(error: TpmError) -> (u64, u64, usize) {
+    let Parts { name, value, had, .. } = parts(error);
+    (number_of(&name), value, had)
 }
 
 fn view_of<T: for<'a> TpmField<'a>>(bytes: &[u8]) -> TpmResult<usize> {
@@ -69,7 +69,7 @@ fn answer<T: TpmUnmarshal + TpmMarshal + TpmSized + PartialEq + Fields>(bytes: &
     let mut notes = views_note(&read, bytes, view).to_string();
     let (record, tail) = match read {
         Ok(pair) => pair,
-        Err(e) => return format!("{}{notes}", refusal(e)),
+        Err(e) => return format!("err {}{notes}", refusal(e)),
     };
     let consumed = bytes.len() - tail.len();
     if record.len() != consumed {

@@ -29,9 +29,9 @@ from judge import LONG, ONE_PLACE, kind_read
 from sides import HERE, Claims, Ended, Reading, Writing, all_asked, answer, fail, is_built, parsed
 
 TEXT = HERE / 'text'
-# How often each sort of place is changed: 12 sorts of reading, 15 where differences are listed, and 10 of writing.
+# How often each sort of place is changed: 13 sorts of reading, 16 where differences are listed, 10 of writing, and 11 of the gate's answers.
 SIXTEEN_EACH, LISTED_EACH = 10, 4
-WRITING_EACH = {'what we write': 9, 'the gate\'s answers': 6}
+WRITING = {'what we write': (places.WRITING_SORTS, 9), 'the gate\'s answers': (places.GATE_SORTS, 6)}
 # A kind that is not the input's, and `read` for `refused`, are no answer to the input: there the comparison stops, and says so.
 STOPS, STOPPED = ('kind', 'word'), b'ours, kind '
 # Places in a refusal of an attestation type outside the eight, where we answer what is listed and the crate another thing.
@@ -134,8 +134,9 @@ def try_our_reading(reading, work, program, mode, sorts, each, is_held):
 def try_our_writing(every, what):
     """Each case is judged alone: as it is nothing may be reported, and with the change something has to be."""
     r, trial, parts = random.Random(what), Trial(what), [places.of_writing(every[turn::20]) for turn in range(20)]
-    for sort, groups in places.WRITING_SORTS.items():
-        for _ in range(WRITING_EACH[what]):
+    sorts, each = WRITING[what]
+    for sort, groups in sorts.items():
+        for _ in range(each):
             group, part, (start, end) = chosen(r, sort, groups, parts, is_held_in_writing)
             number = part.number(start)
             one, (first, last) = part.asked[number], part.bounds(number)
@@ -220,7 +221,7 @@ def main(folder, gate, ours):
     bad = try_our_reading(sides['reading'], work, sixteen, 'same', places.READING_SORTS, SIXTEEN_EACH, is_held_by_sixteen)
     listed = places.READING_SORTS | TYPE_SORTS
     bad += try_our_reading(sides['reading'], work, published, 'listed', listed, LISTED_EACH, is_held_by_published)
-    for every, what in zip((sides['writing'].every, gates(folder, Path(gate))), WRITING_EACH):
+    for every, what in zip((sides['writing'].every, gates(folder, Path(gate))), WRITING):
         bad += try_our_writing(every, what)
     bad += try_text(sides, work)
     shutil.rmtree(work)

@@ -19,19 +19,35 @@ pub fn unhex(text: &str) -> Option<Vec<u8>> {
     digits.chunks(2).map(|pair| Some((nibble(pair[0])? * 16 + nibble(pair[1])?) as u8)).collect()
 }
 
-/// An error in parts: who made it (`text`, `rebuilt`), its name or fault, its offset, and what our refusal has as value.
+/// An error in parts.
+pub struct Parts {
+    /// Who made it: `text` or `rebuilt`.
+    pub who: &'static str,
+    /// Its name or fault.
+    pub name: String,
+    pub offset: usize,
+    /// What our refusal has as value.
+    pub value: u64,
+    /// `available` of what ends too early, as our Short has it; else 0.
+    pub had: usize,
+}
+
 #[must_use]
-pub fn parts(error: TpmError) -> (&'static str, String, usize, u64) {
+pub fn parts(error: TpmError) -> Parts {
     let (name, offset, value) = match error {
         TpmError::BufferOverflow { offset, needed, .. } => ("BufferOverflow", offset, needed as u64),
         TpmError::IntegerTooLarge { offset, value } => ("IntegerTooLarge", offset, value),
         TpmError::TooManyItems { offset, actual, .. } => ("TooManyItems", offset, actual as u64),
         TpmError::TrailingData { offset, actual } => ("TrailingData", offset, actual as u64),
-        TpmError::UnexpectedEnd { offset, needed, .. } => ("UnexpectedEnd", offset, needed as u64),
+        TpmError::UnexpectedEnd { offset, needed, available } => {
+            return Parts { who: "text", name: "UnexpectedEnd".to_string(), offset, value: needed as u64, had: available };
+        }
         TpmError::VariantNotAvailable { offset, value } => ("VariantNotAvailable", offset, value),
-        TpmError::Rebuilt { fault, offset, value } => return ("rebuilt", format!("{fault:?}"), offset, value),
+        TpmError::Rebuilt { fault, offset, value, available } => {
+            return Parts { who: "rebuilt", name: format!("{fault:?}"), offset, value, had: available };
+        }
     };
-    ("text", name.to_string(), offset, value)
+    Parts { who: "text", name: name.to_string(), offset, value, had: 0 }
 }
 
 /// The number that docs/FORMAT.md gives to such a refusal; 0 if it has none.
@@ -49,9 +65,9 @@ pub fn number_of(name: &str) -> u64 {
     }
 }
 
-/// `err WHO NAME OFFSET VALUE`.
+/// `WHO NAME OFFSET VALUE HAD`, of a record that is not read.
 #[must_use]
 pub fn refusal(error: TpmError) -> String {
-    let (who, name, offset, value) = parts(error);
-    format!("err {who} {name} {offset} {value}")
+    let Parts { who, name, offset, value, had } = parts(error);
+    format!("{who} {name} {offset} {value} {had}")
 }

@@ -1,7 +1,8 @@
 //! Reads the cases that the program `calls` reads, in the same frame, and answers each of them by the crate's calls in one line:
 //!
 //!     no such record: WHY         the crate has no record like this: its kind, its selector, or a source that is not the records
-//!     refused first|second WHO NAME OFFSET VALUE      that record of the case is not read; WHO is `text`, `rebuilt`, or `caller` for a tail
+//!     refused first|second WHO NAME OFFSET VALUE HAD      that record of the case is not read; WHO is `text`, `rebuilt`, or `caller` for a tail;
+//!                                 HAD is `available` of what ends too early, else 0
 //!     another arm                 kinds 21 to 27 find another arm than the one that they are for
 //!     mM.. WHO WRITTEN [tail HEX field WHO HEX item HEX]
 //!
@@ -16,7 +17,7 @@ mod words;
 use fields::{Fields, Lines, REBUILT};
 use std::io::{BufWriter, Read, Write};
 use tpm2_protocol::{TpmError, TpmMarshal, TpmSized, TpmUnmarshal, TpmWriter, data::*};
-use words::{hex, parts};
+use words::{Parts, hex, parts, refusal};
 
 const UNTOUCHED: u8 = 0xa5;
 const HEAD: usize = 14;
@@ -52,14 +53,14 @@ impl<'a> Case<'a> {
     }
 
     fn first<T: TpmUnmarshal>(&self) -> Result<(T, &'a [u8]), String> {
-        T::unmarshal(self.first).map_err(|e| format!("refused first {}", said(e)))
+        T::unmarshal(self.first).map_err(|e| format!("refused first {}", refusal(e)))
     }
 
     /// Nothing may follow it. The crate hands back what follows, and its callers look.
     fn second<T: TpmUnmarshal>(&self) -> Result<T, String> {
-        let (record, tail) = T::unmarshal(self.second).map_err(|e| format!("refused second {}", said(e)))?;
+        let (record, tail) = T::unmarshal(self.second).map_err(|e| format!("refused second {}", refusal(e)))?;
         let end = self.second.len() - tail.len();
-        if tail.is_empty() { Ok(record) } else { Err(format!("refused second caller TrailingData {end} {}", tail.len())) }
+        if tail.is_empty() { Ok(record) } else { Err(format!("refused second caller TrailingData {end} {} 0", tail.len())) }
     }
 
     fn selector<C: TryFrom<u16>>(&self) -> Result<C, String> {
@@ -68,7 +69,7 @@ impl<'a> Case<'a> {
 }
 
 fn said(error: TpmError) -> String {
-    let (who, name, offset, value) = parts(error);
+    let Parts { who, name, offset, value, .. } = parts(error);
     format!("{who} {name} {offset} {value}")
 }
 

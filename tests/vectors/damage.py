@@ -51,7 +51,7 @@ def tail(record, turn):
 def cut_at(record, cut):
     """The first so many bytes: refused at the first field that they do not hold."""
     field = next(f for f in record.fields if f.end > cut)
-    return refused('cut', record.kind, record.data[:cut], (answers.SHORT, field.place, field.size))
+    return refused('cut', record.kind, record.data[:cut], answers.short(field.place, field.size, cut))
 
 
 def cuts(record, _turn):
@@ -126,9 +126,10 @@ def body_missing(record, _turn):
     for index, limit in lengths(record):
         field = record.fields[index]
         front = with_number(record, index, limit).data[:field.end]
-        refusal = (answers.SHORT, field.end, limit)
         for there in (0, limit - 1):
-            yield refused('length at its limit, body short', record.kind, front + PATTERN[:there], refusal)
+            copy = front + PATTERN[:there]
+            refusal = answers.short(field.end, limit, len(copy))
+            yield refused('length at its limit, body short', record.kind, copy, refusal)
 
 
 def with_bodies(record, sizes):
@@ -167,7 +168,7 @@ def last_body(record, _turn):
     limit = tables.GREATEST_PCR_SIZE if length.size == 1 else lengths(record)[-1][1]
     if body.size < limit:
         copy = with_number(record, index, body.size + 1)
-        refusal = (answers.SHORT, body.place, body.size + 1)
+        refusal = answers.short(body.place, body.size + 1, len(copy.data))
         yield refused('last body a byte longer', record.kind, copy.data, refusal)
 
 
@@ -199,7 +200,7 @@ def other_count(record, _turn):
         yield whole('count of one less', kept, copy.data[end:])
     if count < tables.GREATEST_COUNT:
         copy = with_number(record, 0, count + 1)
-        refusal = (answers.SHORT, len(copy.data), 2)
+        refusal = answers.short(len(copy.data), 2, len(copy.data))
         yield refused('count of one more', record.kind, copy.data, refusal)
 
 

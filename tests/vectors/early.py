@@ -24,12 +24,13 @@ def damaged(record, turn):
         for _, deposit, text in make(record, turn):
             words = text.split()
             if words[2] == 'refused':
-                yield deposit[1:], tuple(int(words[i]) for i in (3, 5, 7))
+                yield deposit[1:], tuple(map(int, words[3::2]))
 
 
 def moved(refusal, place):
-    """The refusal if the copy begins at another place."""
-    return refusal[0], refusal[1] + place, refusal[2]
+    """The refusal if the copy begins at another place: the bytes that it had are as many."""
+    number, at, *others = refusal
+    return number, at + place, *others
 
 
 # ---- The first record
@@ -52,8 +53,10 @@ def first_refused(layouts):
 def no_first(kind):
     """The place of the record is where the records end, or past it."""
     size = 4 if record_kind(kind) in (13, 14) else 2  # of the first field
-    for place in (3, PAST_THE_END):
-        yield FIRST, refused_call(Asked(kind, 0, index=0), (answers.SHORT, place, size), place, 0, filler(3, kind))
+    records = filler(3, kind)
+    for place in (len(records), PAST_THE_END):
+        refusal = answers.short(place, size, len(records))
+        yield FIRST, refused_call(Asked(kind, 0, index=0), refusal, place, 0, records)
 
 
 # ---- The second record
@@ -68,7 +71,7 @@ def second_refused(layouts):
                 yield SECOND, refused_call(asked, moved(refusal, place), 0, place, first.data + data)
         yield from trailing(asked, first, others)
         for far in (place, PAST_THE_END):
-            yield SECOND, refused_call(asked, (answers.SHORT, far, 2), 0, far, first.data)
+            yield SECOND, refused_call(asked, answers.short(far, 2, place), 0, far, first.data)
         yield from first_comes_first(asked, first)
 
 

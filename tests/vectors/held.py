@@ -16,7 +16,7 @@ class Source(NamedTuple):
     """The slice that spans point into, and what is known of the list in it: its items, or its first fault."""
     data: bytes
     items: tuple = ()
-    fault: Optional[tuple] = None  # number, place from the list's first byte, value
+    fault: Optional[tuple] = None  # number, place from the list's first byte, value; of Short what the list had there
 
 
 class Span(NamedTuple):
@@ -215,7 +215,7 @@ def with_part(row, index, part):
     return row[:index] + (part,) + row[index + 1:]
 
 
-# ---- What is asked of it. An answer is bytes, or a refusal: number, place, value.
+# ---- What is asked of it. An answer is bytes, or a refusal: number, place, value, and of Short what it had.
 
 
 def marshalled(row, source, room):
@@ -223,8 +223,8 @@ def marshalled(row, source, room):
     for part in row:
         fault = part.fault(row, source)
         if fault:
-            number, ahead, value = fault
-            return number, len(out) + ahead, value
+            number, ahead, *others = fault
+            return number, len(out) + ahead, *others
         out += part.written(source)
     return out if len(out) <= room else (answers.NO_ROOM, 0, len(out))
 

@@ -36,7 +36,7 @@ def wrong_counts(items):
     for count in (tables.GREATEST_COUNT + 1, 0xFFFFFFFF):
         yield list_bytes(count, items), (answers.TOO_MANY_ITEMS, 0, count)
     if len(items) < tables.GREATEST_COUNT:
-        yield list_bytes(len(items) + 1, items), (answers.SHORT, end, 2)
+        yield list_bytes(len(items) + 1, items), answers.short(end, 2, end)
     for count in sorted({0, len(items) - 1}) if items else ():
         place = item_places(items)[count]
         yield list_bytes(count, items), (answers.TRAILING, place, end - place)
@@ -63,15 +63,15 @@ def wrong_last_size(items):
     data, place = list_bytes(len(items), items), item_places(items)[-1]
     end, bits = len(data), len(items[-1]) - SMALLEST_ITEM
     if bits < tables.GREATEST_PCR_SIZE:
-        yield put(data, place + 2, bytes([bits + 1])), (answers.SHORT, place + 3, bits + 1)
+        yield put(data, place + 2, bytes([bits + 1])), answers.short(place + 3, bits + 1, end)
     one_more = put(data, 0, (len(items) + 1).to_bytes(4, 'big'))
     if bits >= 1:
         yield put(data, place + 2, bytes([bits - 1])), (answers.TRAILING, end - 1, 1)
         if len(items) < tables.GREATEST_COUNT:
-            yield put(one_more, place + 2, bytes([bits - 1])), (answers.SHORT, end - 1, 2)
+            yield put(one_more, place + 2, bytes([bits - 1])), answers.short(end - 1, 2, end)
     if bits >= 2 and len(items) < tables.GREATEST_COUNT:
         begun = put(put(one_more, place + 2, bytes([bits - 2])), end - 2, tables.SHA256.to_bytes(2, 'big'))
-        yield begun, (answers.SHORT, end, 1)
+        yield begun, answers.short(end, 1, end)
 
 
 def an_item(bank, bits):

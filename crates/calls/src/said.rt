@@ -20,9 +20,9 @@ pub fn say_match(yes: bool) {
 }
 
 pub fn say_refusal(kind: u8, f: Refusal) {
-    let mut line = [0u8; 106];
+    let mut line = [0u8; 131];
     let n = fit_refusal_line(kind, f, &mut line, 0);
-    if n <= 106 {
+    if n <= 131 {
         io::write_all(1, &line[..n]);
     }
 }

@@ -18,11 +18,13 @@ use Rattle.wire.specs.Grammar.{Token, Starts}
 use Rattle.wire.specs.Filling.{written, filled}
 use Rattle.wire.proofs.Answers.{measure-answer-once}
 use Rattle.wire.proofs.Steps.{found-refused, found-same, refused-same, next-found}
+use Rattle.wire.specs.Refusals.{Had}
+use Rattle.wire.proofs.Had.{other, other-had}
 use Rattle.format.specs.Kinds.{layoutOf, readKind}
 use Rattle.format.specs.Refused.{RefusesKind}
-use Rattle.format.proofs.Legal.{legal-is-read-by-number, read-by-number-is-legal, refusal-by-number-is-first, first-is-refusal-by-number}
+use Rattle.format.proofs.Legal.{legal-is-read-by-number, read-by-number-is-legal, refusal-by-number-is-first, first-is-refusal-by-number, refused-by-number-says-what-it-had}
 use Rattle.copies.specs.Copied.{bytesRead, recordBytes, Begins, Copies}
-use Rattle.copies.proofs.Lent.{room-is-used, no-room-is-refused, size-is-of-bytes, refusal-or-no-room, refusal-changes-nothing}
+use Rattle.copies.proofs.Lent.{room-is-used, no-room-is-refused, size-is-of-bytes, refusal-or-no-room, lent-tells, refusal-changes-nothing}
 
 -- ---- the bytes of the record at the front
 
@@ -86,6 +88,11 @@ module _ (k : ℕ) (src old last : List ℕ) (r : Measure) (b : Bytes src) (answ
       by (inl none) = inl (refusal-by-number-is-first k src 0 b (no-bytes-read k src none))
       by (inr (bs, there, short, same)) = let (ts, d) = bytes-are-legal k src b there in inr (ts, bs, d, short, same)
 
+  says-what-it-had : {f : Refusal} → r ≡ Measure.No f → Had src f
+  says-what-it-had {f} e =
+      lent-tells old (Had src) (recordBytes k src) (λ g none. refused-by-number-says-what-it-had k src 0 g (no-bytes-read k src none)) (λ n. other-had (other 7 refl refl))
+      f (told e)
+
   first-refused : {f : Refusal} → RefusesKind k src 0 f → r ≡ Measure.No f
   unfolding recordBytes
   first-refused {f} d = answers (Measure.No f) (ap (λ a. written 0 (bytesRead a src) old) (first-is-refusal-by-number k d))
@@ -99,6 +106,7 @@ module _ (k : ℕ) (src old last : List ℕ) (r : Measure) (b : Bytes src) (answ
         copied-is-legal = size-legal;
         refused-changes-nothing = λ e. buffer ∙ refusal-changes-nothing old (recordBytes k src) (told e);
         refusal-is-first = why-refused;
+        refusal-says-what-it-had = says-what-it-had;
         first-is-refusal = first-refused;
         legal-needs-room = λ {ts} {bs} d short. answers (Measure.No (noRoom 0 (length bs))) (no-room-is-refused old (recordBytes k src) (legal-bytes k src d) short .0);
       }

@@ -13,8 +13,10 @@ use borrow.Author.Tests.{leb-true, leb-false}
 use Rattle.faults.specs.declared.Refusal.{Refusal}
 use Rattle.faults.specs.Faults.{noRoom}
 use Rattle.wire.specs.Records.{Ans, found, refused}
+use Rattle.wire.specs.Refusals.{HadFew}
 use Rattle.wire.specs.Filling.{written, filled}
 use Rattle.wire.proofs.Steps.{found-refused, found-same, refused-same}
+use Rattle.wire.proofs.Had.{other, other-few, Tells}
 use Rattle.wire.proofs.Filling.{fits-put, fits-not}
 
 module _ (old : List ℕ) where
@@ -59,6 +61,18 @@ module _ (old : List ℕ) where
       (λ h. absurd (found-refused (sym p ∙ room-is-used (found bs) refl h .0)))
       (λ h. inr (bs, refl, h, refused-same (sym p ∙ no-room-is-refused (found bs) refl h .0)))
   refusal-or-no-room (refused g) p = inl (ap refused (refused-same p))
+
+  -- what is said of the refusals of what was to be written, and of NoRoom, is said of what was answered
+  pub lent-tells : (P : Refusal → Type 0) (a : Ans (List ℕ)) → Tells P a → ((n : ℕ) → P (noRoom 0 n)) → Tells P (written 0 a old)
+  lent-tells P a h none f p = by (refusal-or-no-room a p)
+    where
+      by : (a ≡ refused f) ⊎ ((bs : List ℕ) × (a ≡ found bs) × (length old < length bs) × (f ≡ noRoom 0 (length bs))) → P f
+      by (inl e) = h f e
+      by (inr (bs, there, short, same)) = rw same (none (length bs))
+
+  -- NoRoom is not for want of bytes to read
+  pub lent-had-few : (a : Ans (List ℕ)) → Tells HadFew a → Tells HadFew (written 0 a old)
+  lent-had-few a h = lent-tells HadFew a h (λ n. other-few (other 7 refl refl))
 
   -- what is refused leaves all as it was
   pub refusal-changes-nothing : (a : Ans (List ℕ)) {f : Refusal} → written 0 a old ≡ refused f → filled 0 a old ≡ old

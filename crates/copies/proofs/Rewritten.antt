@@ -16,17 +16,19 @@ use Rattle.wire.specs.Records.{Part, found, refused, parsed}
 use Rattle.wire.specs.Within.{Within}
 use Rattle.wire.specs.Reading.{read}
 use Rattle.wire.specs.Grammar.{Spells, shown}
+use Rattle.wire.specs.Refusals.{HadFew}
 use Rattle.wire.specs.Writing.{lay}
 use Rattle.wire.specs.Filling.{written, filled}
 use Rattle.wire.specs.Unwritten.{Shaped, Unwritten}
 use Rattle.wire.proofs.Stand.{stands-start}
 use Rattle.wire.proofs.Written.{read-then-lay, lay-sound, lay-then-read}
+use Rattle.wire.proofs.Had as had
 use Rattle.wire.proofs.Unwritten.{unwritten-lay, lay-unwritten, shaped-of-read}
 use Rattle.format.specs.Kinds.{layoutOf}
 use Rattle.copies.specs.Sizes.{sizesOf}
 use Rattle.copies.proofs.Begun.{kind-has-bytes, read-lies-in}
 use Rattle.copies.proofs.Laid.{lay-laid, legal-laid}
-use Rattle.copies.proofs.Lent.{room-is-used, no-room-is-refused, size-is-of-bytes, refusal-or-no-room, refusal-changes-nothing, length-is-kept, rest-is-kept}
+use Rattle.copies.proofs.Lent.{room-is-used, no-room-is-refused, size-is-of-bytes, refusal-or-no-room, lent-had-few, refusal-changes-nothing, length-is-kept, rest-is-kept}
 
 module _ (k : ℕ) where
   -- ---- a record that was read
@@ -143,6 +145,10 @@ module _ (k : ℕ) where
           ⊎ ((bs : List ℕ) × (lay (layoutOf k) ps src 0 ≡ found bs) × Spells (layoutOf k) (shown src ps) bs × (length old < length bs) × (f ≡ noRoom 0 (length bs)))
       by (inl e) = inl (lay-unwritten (layoutOf k) ps src 0 f b s e)
       by (inr (bs, e, short, same)) = inr (bs, e, lay-sound (layoutOf k) ps src 0 bs b e, short, same)
+
+  -- a refused write had no bytes, unless it is Short, of a list, and then fewer than it needs
+  pub refused-write-had-few : (ps : List Part) (src old : List ℕ) (f : Refusal) → written 0 (lay (layoutOf k) ps src 0) old ≡ refused f → HadFew f
+  refused-write-had-few ps src old = lent-had-few old (lay (layoutOf k) ps src 0) (had.refused-write-had-few (layoutOf k) ps src 0)
 
   -- the first field that may not be written is refused so, whatever room there is
   pub the-first-that-may-not-be-written-is-refused : (ps : List Part) (src old : List ℕ) {f : Refusal} → Unwritten src (layoutOf k) ps 0 f

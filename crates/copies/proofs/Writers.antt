@@ -14,6 +14,7 @@ use Rattle.wire.specs.Records.{Part, found, refused, parsed}
 use Rattle.wire.specs.Within.{Within}
 use Rattle.wire.specs.Reading.{read}
 use Rattle.wire.specs.Grammar.{Spells, shown}
+use Rattle.wire.specs.Refusals.{HadFew}
 use Rattle.wire.specs.Writing.{lay}
 use Rattle.wire.specs.Filling.{written}
 use Rattle.wire.specs.Items.{itemOf}
@@ -88,6 +89,10 @@ module _ (k : ℕ) {ps : List Part} {src old last : List ℕ} {r : Measure} (w :
       → Unwritten src (layoutOf k) ps 0 f
       ⊎ ((bs : List ℕ) × (lay (layoutOf k) ps src 0 ≡ found bs) × Spells (layoutOf k) (shown src ps) bs × (length old < length bs) × (f ≡ noRoom 0 (length bs)))
   refusal-is-the-first-that-may-not-be-written b e = rewritten.refusal-is-the-first-that-may-not-be-written k ps src old b (w .shaped) (told e)
+
+  -- a refused write had no bytes, unless it is Short, of a list, and then fewer than it needs
+  pub refused-write-had-few : {f : Refusal} → r ≡ Measure.No f → HadFew f
+  refused-write-had-few {f} e = rewritten.refused-write-had-few k ps src old f (told e)
 
   -- the first field that may not be written is refused so, whatever room there is
   pub the-first-that-may-not-be-written-is-refused : {f : Refusal} → Unwritten src (layoutOf k) ps 0 f → r ≡ Measure.No f

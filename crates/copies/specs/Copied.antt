@@ -9,6 +9,7 @@ use Rattle.faults.specs.Faults.{noRoom}
 use Rattle.wire.specs.declared.measure.Measure.{Measure}
 use Rattle.wire.specs.Answers.{measureAnswer}
 use Rattle.wire.specs.Records.{Ans, found, next, Parsed}
+use Rattle.wire.specs.Refusals.{Had}
 use Rattle.wire.specs.Grammar.{Token, Spells}
 use Rattle.wire.specs.Filling.{written, filled}
 use Rattle.format.specs.Kinds.{layoutOf, readKind}
@@ -46,6 +47,8 @@ pub record Copies (kind : ℕ) (src old : List ℕ) (r : Measure) (last : List �
   -- it says why no record of the kind stands there, or how much room the one that does needs
   pub refusal-is-first : {f : Refusal} → r ≡ Measure.No f
       → RefusesKind kind src 0 f ⊎ ((ts : List Token) × (bs : List ℕ) × Begins kind src ts bs × (length old < length bs) × (f ≡ noRoom 0 (length bs)))
+  -- it says what it had
+  pub refusal-says-what-it-had : {f : Refusal} → r ≡ Measure.No f → Had src f
   -- and what says why is answered, and so is the room that is wanting
   pub first-is-refusal : {f : Refusal} → RefusesKind kind src 0 f → r ≡ Measure.No f
   pub legal-needs-room : {ts : List Token} {bs : List ℕ} → Begins kind src ts bs → length old < length bs → r ≡ Measure.No (noRoom 0 (length bs))

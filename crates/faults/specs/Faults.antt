@@ -1,4 +1,5 @@
--- The thirteen faults: the format's number of each, and what the value beside it says. And refusals by name. Assumes nothing.
+-- The thirteen faults: the format's number of each, what the value beside it says, and how many bytes it had. And refusals by name.
+-- Assumes nothing.
 use Prim.Native.Nat.{ℕ}
 use Rattle.faults.specs.declared.Fault.{Fault}
 use Rattle.faults.specs.declared.Fault.the-variants.{Short, UnknownCode, NoArm, TooLong, TooManyItems, BadValue, Mismatch, BadSpan, NoRoom, NoField, Trailing, BadKind, Oversize}
@@ -8,6 +9,8 @@ use Rattle.faults.specs.declared.Refusal.{Refusal}
 pub record Met : Type 0 where
   -- the bytes that this field needs, or the record
   pub needed : ℕ
+  -- the bytes that there are, from the place to the end of what was read
+  pub there : ℕ
   -- the code that is on no list
   pub code : ℕ
   -- the selector of the union
@@ -27,21 +30,23 @@ pub record Met : Type 0 where
   -- the kind that was asked for
   pub kind : ℕ
 
-abbrev pub met : (needed code selector size count found span index leftOver kind : ℕ) → Met
-met n c v s m x l i o k =
-    record { needed = n; code = c; selector = v; size = s; count = m; found = x; span = l; index = i; leftOver = o; kind = k }
+abbrev pub met : (needed there code selector size count found span index leftOver kind : ℕ) → Met
+met n h c v s m x l i o k =
+    record { needed = n; there = h; code = c; selector = v; size = s; count = m; found = x; span = l; index = i; leftOver = o; kind = k }
 
--- a row of the format's table of faults: the fault's number, and the value that its refusal has
+-- a row of the format's table of faults: the fault's number, the value that its refusal has, and how many bytes it had
 pub record Row : Type 0 where
   pub number : ℕ
   pub value : Met → ℕ
+  pub had : Met → ℕ
 
+-- the row of a fault that is not for want of bytes: its refusal had none
 abbrev pub row : ℕ → (Met → ℕ) → Row
-row n v = record { number = n; value = v }
+row n v = record { number = n; value = v; had = λ m. 0 }
 
 -- the table of faults, as the format has it on paper (docs/FORMAT.md). Oversize has one more byte than the listing takes behind the kind
 abbrev pub paper : Fault → Row
-paper Short = row 1 (λ m. m .needed)
+paper Short = record { number = 1; value = λ m. m .needed; had = λ m. m .there }
 paper UnknownCode = row 2 (λ m. m .code)
 paper NoArm = row 3 (λ m. m .selector)
 paper TooLong = row 4 (λ m. m .size)
@@ -55,51 +60,55 @@ paper Trailing = row 11 (λ m. m .leftOver)
 paper BadKind = row 12 (λ m. m .kind)
 paper Oversize = row 13 (λ m. 4097)
 
-abbrev pub refusal : Fault → (place value : ℕ) → Refusal
-refusal f p v = record { fault = f; place = p; value = v }
+abbrev pub refusal : Fault → (place value had : ℕ) → Refusal
+refusal f p v h = record { fault = f; place = p; value = v; had = h }
 
--- the refusal for a fault at a place: its value is what the table says of what was met
+-- the refusal for a fault at a place: its value, and what it had, are what the table says of what was met
 abbrev pub refusing : Fault → (place : ℕ) → Met → Refusal
-refusing f p m = refusal f p (paper f .value m)
+refusing f p m = refusal f p (paper f .value m) (paper f .had m)
 
--- ---- refusals by name; the arguments are the place, and then the number that was met
+-- the same refusal at another place
+abbrev pub placedAt : (place : ℕ) → Refusal → Refusal
+placedAt p f = refusal (f .fault) p (f .value) (f .had)
 
-abbrev pub short : (place needed : ℕ) → Refusal
-short p n = refusing Short p (met n 0 0 0 0 0 0 0 0 0)
+-- ---- refusals by name; the arguments are the place, and then the number that was met; of Short also how many bytes there are
+
+abbrev pub short : (place needed there : ℕ) → Refusal
+short p n h = refusing Short p (met n h 0 0 0 0 0 0 0 0 0)
 
 abbrev pub unknownCode : (place code : ℕ) → Refusal
-unknownCode p c = refusing UnknownCode p (met 0 c 0 0 0 0 0 0 0 0)
+unknownCode p c = refusing UnknownCode p (met 0 0 c 0 0 0 0 0 0 0 0)
 
 abbrev pub noSuchArm : (place selector : ℕ) → Refusal
-noSuchArm p v = refusing NoArm p (met 0 0 v 0 0 0 0 0 0 0)
+noSuchArm p v = refusing NoArm p (met 0 0 0 v 0 0 0 0 0 0 0)
 
 abbrev pub tooLong : (place length : ℕ) → Refusal
-tooLong p n = refusing TooLong p (met 0 0 0 n 0 0 0 0 0 0)
+tooLong p n = refusing TooLong p (met 0 0 0 0 n 0 0 0 0 0 0)
 
 abbrev pub tooManyItems : (place count : ℕ) → Refusal
-tooManyItems p n = refusing TooManyItems p (met 0 0 0 0 n 0 0 0 0 0)
+tooManyItems p n = refusing TooManyItems p (met 0 0 0 0 0 n 0 0 0 0 0)
 
 abbrev pub badValue : (place value : ℕ) → Refusal
-badValue p v = refusing BadValue p (met 0 0 0 0 0 v 0 0 0 0)
+badValue p v = refusing BadValue p (met 0 0 0 0 0 0 v 0 0 0 0)
 
 abbrev pub mismatch : (place selector : ℕ) → Refusal
-mismatch p v = refusing Mismatch p (met 0 0 v 0 0 0 0 0 0 0)
+mismatch p v = refusing Mismatch p (met 0 0 0 v 0 0 0 0 0 0 0)
 
 abbrev pub badSpan : (place length : ℕ) → Refusal
-badSpan p n = refusing BadSpan p (met 0 0 0 0 0 0 n 0 0 0)
+badSpan p n = refusing BadSpan p (met 0 0 0 0 0 0 0 n 0 0 0)
 
 abbrev pub noRoom : (place needed : ℕ) → Refusal
-noRoom p n = refusing NoRoom p (met n 0 0 0 0 0 0 0 0 0)
+noRoom p n = refusing NoRoom p (met n 0 0 0 0 0 0 0 0 0 0)
 
 -- an index is asked of a record and has no place of its own: 0 stands there
 abbrev pub noField : (index : ℕ) → Refusal
-noField i = refusing NoField 0 (met 0 0 0 0 0 0 0 i 0 0)
+noField i = refusing NoField 0 (met 0 0 0 0 0 0 0 0 i 0 0)
 
 abbrev pub trailing : (place left : ℕ) → Refusal
-trailing p n = refusing Trailing p (met 0 0 0 0 0 0 0 0 n 0)
+trailing p n = refusing Trailing p (met 0 0 0 0 0 0 0 0 0 n 0)
 
 abbrev pub badKind : (kind : ℕ) → Refusal
-badKind k = refusing BadKind 0 (met 0 0 0 0 0 0 0 0 0 k)
+badKind k = refusing BadKind 0 (met 0 0 0 0 0 0 0 0 0 0 k)
 
 abbrev pub oversize : Refusal
-oversize = refusing Oversize 0 (met 0 0 0 0 0 0 0 0 0 0)
+oversize = refusing Oversize 0 (met 0 0 0 0 0 0 0 0 0 0 0)

@@ -1,8 +1,8 @@
-// Why something is refused. A refusal has a fault, a place and a value; the format's number of each fault and what its
-// value says stand in specs/Faults.antt. Code builds a refusal by its name, below; only a walk that keeps
-// one as numbers builds it again from them (`Walk::answer` of steps).
+// Why something is refused. A refusal has a fault, a place, a value, and how many bytes it had; the format's number of each
+// fault and what its value and `had` say stand in specs/Faults.antt. Code builds a refusal by its name, below; only a walk
+// that keeps one as numbers builds it again from them (`Walk::answer` of steps).
 ghost use mathlib.Core.Path.{_≡_};
-ghost use Rattle.faults.specs.Faults.{paper, refusal, short, unknownCode, noSuchArm, tooLong, tooManyItems, badValue, mismatch, badSpan, noRoom, noField, trailing, badKind, oversize};
+ghost use Rattle.faults.specs.Faults.{paper, refusal, placedAt, short, unknownCode, noSuchArm, tooLong, tooManyItems, badValue, mismatch, badSpan, noRoom, noField, trailing, badKind, oversize};
 
 pub enum Fault {
     Short,
@@ -47,17 +47,31 @@ pub struct Refusal {
     pub fault: Fault,
     pub place: usize,
     pub value: u64,
+    pub had: usize,
 }
 
 impl Refusal {
-    // The input ends before the field that is due at `place` and needs so many bytes.
-    pub fn short(place: usize, needed: usize) -> Refusal
-        ensures { λ r. ⌜ r ≡ short place needed ⌝ }
+    // The input ends before the field that is due at `place` and needs so many bytes: from there on it has fewer.
+    pub fn short(place: usize, needed: usize, there: usize) -> Refusal
+        ensures { λ r. ⌜ r ≡ short place needed there ⌝ }
     {
         Refusal {
             fault: Fault::Short,
             place: place,
             value: needed as u64,
+            had: there,
+        }
+    }
+
+    // A refusal that is not for want of bytes: it had none.
+    fn other(fault: Fault, place: usize, value: u64) -> Refusal
+        ensures { λ r. ⌜ r ≡ refusal fault place value 0 ⌝ }
+    {
+        Refusal {
+            fault: fault,
+            place: place,
+            value: value,
+            had: 0,
         }
     }
 
@@ -65,144 +79,98 @@ impl Refusal {
     pub fn unknown_code(place: usize, code: u64) -> Refusal
         ensures { λ r. ⌜ r ≡ unknownCode place code ⌝ }
     {
-        Refusal {
-            fault: Fault::UnknownCode,
-            place: place,
-            value: code,
-        }
+        Refusal::other(Fault::UnknownCode, place, code)
     }
 
     // The selector has no arm; `place` is where the arm was due.
     pub fn no_arm(place: usize, selector: u64) -> Refusal
         ensures { λ r. ⌜ r ≡ noSuchArm place selector ⌝ }
     {
-        Refusal {
-            fault: Fault::NoArm,
-            place: place,
-            value: selector,
-        }
+        Refusal::other(Fault::NoArm, place, selector)
     }
 
     // A length beyond its field's limit.
     pub fn too_long(place: usize, length: u64) -> Refusal
         ensures { λ r. ⌜ r ≡ tooLong place length ⌝ }
     {
-        Refusal {
-            fault: Fault::TooLong,
-            place: place,
-            value: length,
-        }
+        Refusal::other(Fault::TooLong, place, length)
     }
 
     // A count beyond its list's capacity.
     pub fn too_many_items(place: usize, count: u64) -> Refusal
         ensures { λ r. ⌜ r ≡ tooManyItems place count ⌝ }
     {
-        Refusal {
-            fault: Fault::TooManyItems,
-            place: place,
-            value: count,
-        }
+        Refusal::other(Fault::TooManyItems, place, count)
     }
 
     // A yes/no byte that is neither, or another magic.
     pub fn bad_value(place: usize, value: u64) -> Refusal
         ensures { λ r. ⌜ r ≡ badValue place value ⌝ }
     {
-        Refusal {
-            fault: Fault::BadValue,
-            place: place,
-            value: value,
-        }
+        Refusal::other(Fault::BadValue, place, value)
     }
 
     // The arm that is held is not the one that the selector chooses.
     pub fn mismatch(place: usize, selector: u64) -> Refusal
         ensures { λ r. ⌜ r ≡ mismatch place selector ⌝ }
     {
-        Refusal {
-            fault: Fault::Mismatch,
-            place: place,
-            value: selector,
-        }
+        Refusal::other(Fault::Mismatch, place, selector)
     }
 
     // A span that does not lie in its source.
     pub fn bad_span(place: usize, length: usize) -> Refusal
         ensures { λ r. ⌜ r ≡ badSpan place length ⌝ }
     {
-        Refusal {
-            fault: Fault::BadSpan,
-            place: place,
-            value: length as u64,
-        }
+        Refusal::other(Fault::BadSpan, place, length as u64)
     }
 
     // The output is smaller than what is to be put there.
     pub fn no_room(place: usize, needed: usize) -> Refusal
         ensures { λ r. ⌜ r ≡ noRoom place needed ⌝ }
     {
-        Refusal {
-            fault: Fault::NoRoom,
-            place: place,
-            value: needed as u64,
-        }
+        Refusal::other(Fault::NoRoom, place, needed as u64)
     }
 
     // There is no byte field, or no item, with that index.
     pub fn no_field(index: usize) -> Refusal
         ensures { λ r. ⌜ r ≡ noField index ⌝ }
     {
-        Refusal {
-            fault: Fault::NoField,
-            place: 0,
-            value: index as u64,
-        }
+        Refusal::other(Fault::NoField, 0, index as u64)
     }
 
     // Bytes are left over where the record, or the list, has ended.
     pub fn trailing(place: usize, left: usize) -> Refusal
         ensures { λ r. ⌜ r ≡ trailing place left ⌝ }
     {
-        Refusal {
-            fault: Fault::Trailing,
-            place: place,
-            value: left as u64,
-        }
+        Refusal::other(Fault::Trailing, place, left as u64)
     }
 
     // No record kind has that number.
     pub fn bad_kind(kind: u64) -> Refusal
         ensures { λ r. ⌜ r ≡ badKind kind ⌝ }
     {
-        Refusal {
-            fault: Fault::BadKind,
-            place: 0,
-            value: kind,
-        }
+        Refusal::other(Fault::BadKind, 0, kind)
     }
 
     // There are more than 4,096 bytes behind the kind, more than the listing takes.
     pub fn oversize() -> Refusal
         ensures { λ r. ⌜ r ≡ oversize ⌝ }
     {
-        Refusal {
-            fault: Fault::Oversize,
-            place: 0,
-            value: 4097,
-        }
+        Refusal::other(Fault::Oversize, 0, 4097)
     }
 
     // The same, at another place.
     pub fn placed_at(self, place: usize) -> Refusal
-        ensures { λ r. ⌜ r ≡ refusal (self .fault) place (self .value) ⌝ }
+        ensures { λ r. ⌜ r ≡ placedAt place self ⌝ }
     {
         let fault = self.fault;
         let value = self.value;
+        let had = self.had;
         Refusal {
             fault: fault,
             place: place,
             value: value,
+            had: had,
         }
     }
 }

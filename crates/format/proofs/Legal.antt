@@ -3,21 +3,25 @@
 use Prim.Native.Nat.{ℕ, zero, suc, _≤_}
 use native.Mathlib.Omega.{arith}
 use mathlib.Core.Path.{_≡_, refl, sym, ap, _∙_}
-use mathlib.Core.Bool.{Bool, true, false}
+use mathlib.Core.Bool.{Bool, true, false, cond}
 use mathlib.Core.List.{List}
 use lib.ListN.{length, List·getD-eq-default}
 use lib.Dec.{leb}
 use borrow.Author.Tests.{lt-ltb, leb-false}
 use Rattle.faults.specs.declared.Refusal.{Refusal}
+use Rattle.faults.specs.Faults.{badKind}
 use Rattle.wire.specs.Bytes.{Bytes}
 use Rattle.wire.specs.Layout.{noArm}
-use Rattle.wire.specs.Records.{found, refused, Parsed, parsed}
+use Rattle.wire.specs.Records.{Ans, found, refused, Parsed, parsed}
+use Rattle.wire.specs.Reading.{read}
 use Rattle.wire.specs.Grammar.{Token, Spells, Starts, placed}
+use Rattle.wire.specs.Refusals.{Had}
 use Rattle.wire.proofs.Steps.{refused-same, when-found}
 use Rattle.wire.proofs.Split.{no-arm-no-record}
 use Rattle.wire.proofs.Sound.{read-sound}
 use Rattle.wire.proofs.Prefix.{starts-read}
 use Rattle.wire.proofs.Refused.{refuses-read, read-refuses}
+use Rattle.wire.proofs.Had.{other, other-had, Tells, either-tells, refused-tells, refused-says-what-it-had}
 use Rattle.format.specs.Kinds.{kinds, isKind, layoutOf, readKind}
 use Rattle.format.specs.Refused.{RefusesKind, no-kind, in-record}
 use Rattle.format.proofs.Numbered.{of-kind, no-kind-read}
@@ -58,6 +62,14 @@ refusal-by-number-is-first k src at {f} b p = by (isKind k) refl
     by : (t : Bool) → isKind k ≡ t → RefusesKind k src at f
     by true e = in-record e (read-refuses (layoutOf k) src at f b (of-kind k src at refl e ∙ p))
     by false e = no-kind e (refused-same (sym p ∙ sym (no-kind-read k src at e)))
+
+-- that there is no such kind is not for want of bytes: what the refusal of a kind's record says of them is said by the kind's number
+pub kind-tells : {A : Type 0} (k : ℕ) (src : List ℕ) (a : Ans A) → Tells (Had src) a → Tells (Had src) (cond (isKind k) a (refused (badKind k)))
+kind-tells k src a h = either-tells (Had src) (isKind k) a (refused (badKind k)) h (refused-tells (Had src) (badKind k) (other-had (other 10 refl refl)))
+
+pub refused-by-number-says-what-it-had : (k : ℕ) (src : List ℕ) (at : ℕ) (f : Refusal) → readKind k src at ≡ refused f → Had src f
+unfolding readKind
+refused-by-number-says-what-it-had k src at = kind-tells k src (read (layoutOf k) src at) (refused-says-what-it-had (layoutOf k) src at)
 
 pub first-is-refusal-by-number : (k : ℕ) {src : List ℕ} {at : ℕ} {f : Refusal} → RefusesKind k src at f → readKind k src at ≡ refused f
 first-is-refusal-by-number k {src} {at} (no-kind e same) = sym (no-kind-read k src at e) ∙ ap refused (sym same)

@@ -4,9 +4,12 @@ use native.Mathlib.Omega.{arith}
 use mathlib.Core.Path.{_≡_, refl}
 use mathlib.Core.List.{List, [], _∷_}
 use lib.ListN.{length, drop-of-length-le}
+use Rattle.faults.specs.Faults.{short}
 use Rattle.wire.specs.Bytes.{be}
 use Rattle.wire.specs.Layout.{_then_}
+use Rattle.wire.specs.Records.{span, refused}
 use Rattle.wire.specs.Reading.{piece, field, list, read}
+use Rattle.wire.specs.Writing.{cut, whole, lay}
 use Rattle.codes.specs.Codes.{algorithms, curves, isAlgorithm, isCurve}
 use Rattle.format.specs.Kinds.{tpmuHaArm, tpmuAsymSchemeArm, tpmuKdfSchemeArm, tpmuSymKeyBitsArm, tpmuSymModeArm, tpmuPublicParmsArm, tpmuPublicIdArm, tpmsSchemeHash, tpmuHa, tpmuAsymScheme, tpmuKdfScheme, tpmuSymKeyBits, tpmuSymMode, tpmuPublicParms, tpmuPublicId, tpmtHa, tpmtSymDef, tpmtKdfScheme, tpmtAsymScheme, tpmsEccParms, tpmsEccPoint, tpmtPublic, tpmsPcrSelection, tpmlPcrSelection, kinds, layoutOf, readKind}
 use Rattle.format.specs.Samples.{AllHold, samples}
@@ -21,9 +24,14 @@ alone P p (x ∷ xs) e = absurd (omega arith)
 pub samples-hold : AllHold samples
 unfolding samples readKind layoutOf kinds read piece field list be _then_ algorithms curves isAlgorithm isCurve tpmsSchemeHash tpmuHaArm tpmuAsymSchemeArm tpmuKdfSchemeArm tpmuSymKeyBitsArm tpmuSymModeArm tpmuPublicParmsArm tpmuPublicIdArm tpmuHa tpmuAsymScheme tpmuKdfScheme tpmuSymKeyBits tpmuSymMode tpmuPublicParms tpmuPublicId tpmtHa tpmtSymDef tpmtKdfScheme tpmtAsymScheme tpmsEccParms tpmsEccPoint tpmtPublic tpmsPcrSelection tpmlPcrSelection
 samples-hold =
-    alone _ refl
-    & alone _ refl
+    alone _ refl & alone _ refl & alone _ refl
     & (λ xs e. rw (e, e, drop-of-length-le xs {i = 20} (omega arith)))
     & (λ xs e. rw (e, e))
-    & alone _ refl & alone _ refl & alone _ refl & alone _ refl & alone _ refl & alone _ refl
-    & alone _ refl & alone _ refl & alone _ refl & alone _ refl & alone _ refl & tt
+    & alone _ refl & alone _ refl & alone _ refl & alone _ refl & alone _ refl & alone _ refl & alone _ refl
+    & alone _ refl & alone _ refl & alone _ refl & alone _ refl & alone _ refl & alone _ refl & tt
+
+-- a list's span is walked as if it were the whole input: of these seven bytes, a legal list, the span holds five, so an item's first field
+-- is cut and had one byte, though the source goes on
+pub span-ends-the-list : lay (layoutOf 14) (span 0 5 ∷ []) (0x00 ∷ 0x00 ∷ 0x00 ∷ 0x01 ∷ 0x00 ∷ 0x0B ∷ 0x00 ∷ []) 0 ≡ refused (short 4 2 1)
+unfolding lay cut whole layoutOf kinds read piece field list be _then_ algorithms isAlgorithm tpmsPcrSelection tpmlPcrSelection
+span-ends-the-list = refl

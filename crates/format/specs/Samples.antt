@@ -49,17 +49,19 @@ AllHold (s ∷ ss) = Holds s × AllHold ss
 -- the marked samples, a row each
 unfoldable pub samples : List Sample
 samples =
-    sample 1 [] (refused (short 0 2))
+    sample 1 [] (refused (short 0 2 0))
+    ∷ sample 1 (0x00 ∷ []) (refused (short 0 2 1))
     ∷ sample 1 (0x00 ∷ 0x10 ∷ []) (consumed (num null ∷ tag null ∷ []) 2 [])
     ∷ sampleWith 1 (0x00 ∷ 0x04 ∷ []) 20 (consumed (num sha1 ∷ tag (digestOf 20) ∷ span 2 20 ∷ []) 22 [])
-    ∷ sampleWith 1 (0x00 ∷ 0x04 ∷ []) 19 (refused (short 2 20))
+    ∷ sampleWith 1 (0x00 ∷ 0x04 ∷ []) 19 (refused (short 2 20 19))
     ∷ sample 1 (0x00 ∷ 0x02 ∷ []) (refused (unknownCode 0 2))
     ∷ sample 1 (0x00 ∷ 0x01 ∷ []) (refused (noSuchArm 2 1))
     ∷ sample 2 (0x00 ∷ 0x10 ∷ 0x00 ∷ 0x80 ∷ []) (consumed (num null ∷ tag null ∷ tag null ∷ []) 2 (0x00 ∷ 0x80 ∷ []))
     ∷ sample 2 (0x00 ∷ 0x06 ∷ 0x00 ∷ 0x80 ∷ 0x00 ∷ 0x43 ∷ []) (consumed (num aes ∷ tag aes ∷ num 0x80 ∷ tag aes ∷ num 0x43 ∷ []) 6 [])
-    ∷ sample 2 (0x00 ∷ 0x06 ∷ 0x00 ∷ 0x80 ∷ []) (refused (short 4 2))
+    ∷ sample 2 (0x00 ∷ 0x06 ∷ 0x00 ∷ 0x80 ∷ []) (refused (short 4 2 0))
+    ∷ sample 2 (0x00 ∷ 0x06 ∷ 0x00 ∷ 0x80 ∷ 0x00 ∷ []) (refused (short 4 2 1))
     ∷ sample 6 (0x00 ∷ 0x15 ∷ []) (consumed (num rsaes ∷ tag null ∷ []) 2 [])
-    ∷ sample 6 (0x00 ∷ 0x17 ∷ []) (refused (short 2 2))
+    ∷ sample 6 (0x00 ∷ 0x17 ∷ []) (refused (short 2 2 0))
     ∷ sample 11
     (0x00 ∷ 0x23 ∷ 0x00 ∷ 0x0B ∷ 0x00 ∷ 0x00 ∷ 0x00 ∷ 0x00 ∷ 0x00 ∷ 0x00 ∷ 0x00 ∷ 0x10 ∷ 0x00 ∷ 0x10 ∷ 0x00 ∷ 0x03 ∷ 0x00 ∷ 0x10
     ∷ 0x00 ∷ 0x01 ∷ 0xAA ∷ 0x00 ∷ 0x01 ∷ 0xBB ∷ [])
@@ -69,6 +71,7 @@ samples =
     24
     [])
     ∷ sample 14 (0x00 ∷ 0x00 ∷ 0x00 ∷ 0x11 ∷ []) (refused (tooManyItems 0 17))
-    ∷ sample 14 (0x00 ∷ 0x00 ∷ 0x00 ∷ 0x10 ∷ []) (refused (short 4 2))
+    ∷ sample 14 (0x00 ∷ 0x00 ∷ 0x00 ∷ 0x10 ∷ []) (refused (short 4 2 0))
+    ∷ sample 14 (0x00 ∷ 0x00 ∷ 0x00 ∷ 0x01 ∷ 0x00 ∷ 0x0B ∷ 0x03 ∷ 0x07 ∷ 0x00 ∷ []) (refused (short 7 3 2))
     ∷ sample 14 (0x00 ∷ 0x00 ∷ 0x00 ∷ 0x01 ∷ 0x00 ∷ 0x0B ∷ 0x05 ∷ []) (refused (tooLong 6 5))
     ∷ []

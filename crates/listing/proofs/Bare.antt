@@ -3,6 +3,7 @@ use Prim.Native.Nat.{ℕ}
 use mathlib.Core.Path.{_≡_, ap, _∙_}
 use mathlib.Core.Logic.{_⊎_}
 use mathlib.Core.List.{List, _++_}
+use Rattle.faults.specs.Faults.{badKind}
 use Rattle.wire.specs.Grammar.{Token, Spells}
 use Rattle.format.specs.Kinds.{layoutOf}
 use Rattle.format.proofs.FirstByte.{first-byte-is-no-kind}
@@ -12,7 +13,7 @@ use Rattle.listing.proofs.Promises.{no-kind-is-listed}
 
 -- its first byte is taken for the kind, and is none: refusal 12, BadKind, whatever follows the record
 pub bare-record-is-refused : (k : ℕ) {ts : List Token} {bs : List ℕ} → Spells (layoutOf k) ts bs → (tail : List ℕ)
-    → (b : ℕ) × ((b ≡ 0) ⊎ (b ≡ 255)) × (listing (bs ++ tail) ≡ refusedText b 12 0 b)
+    → (b : ℕ) × ((b ≡ 0) ⊎ (b ≡ 255)) × (listing (bs ++ tail) ≡ refusedText b (badKind b))
 bare-record-is-refused k d tail =
     let (b, rest, e, which, none) = first-byte-is-no-kind k d in
     (b, which, ap (λ bs. listing (bs ++ tail)) e ∙ no-kind-is-listed b (rest ++ tail) none)

@@ -9,7 +9,7 @@ use lib.ListN.{length, take, drop, getD, length-append}
 use lib.Dec.{leb}
 use lib.Seq.{length-take-le, take-all}
 use Rattle.faults.specs.declared.Refusal.{Refusal}
-use Rattle.faults.specs.Faults.{paper, noRoom, badKind, oversize}
+use Rattle.faults.specs.Faults.{noRoom, badKind, oversize}
 use Rattle.wire.specs.declared.measure.Measure.{Measure}
 use Rattle.wire.specs.Bytes.{Bytes}
 use Rattle.wire.specs.Records.{Ans, Part, found, refused, Parsed, parsed}
@@ -72,7 +72,7 @@ judged-refused k bs {f = f} p given = by (judged k bs) (sym p ∙ ap measureAnsw
 
 -- ---- what is listed
 
-pub refused-listed : (k : ℕ) (bs : List ℕ) {f : Refusal} → judged k bs ≡ refused f → refusedText k (paper (f .fault) .number) (f .place) (f .value) ≡ recordText k bs
+pub refused-listed : (k : ℕ) (bs : List ℕ) {f : Refusal} → judged k bs ≡ refused f → refusedText k f ≡ recordText k bs
 unfolding recordText
 refused-listed k bs e = ap (λ a. answerText k bs a) (sym e)
 
@@ -87,9 +87,9 @@ started {text} {other} {old} {last} {m = m} same size most put =
 
 -- the line of a refusal is put, and is all that is listed
 pub refusal-listed : (k : ℕ) (bs : List ℕ) {f : Refusal} {old : List ℕ} {r : ℕ} {last : List ℕ} → judged k bs ≡ refused f
-    → Fits 0 (refusedText k (paper (f .fault) .number) (f .place) (f .value)) old r last → Counts (recordText k bs) old r last
+    → Fits 0 (refusedText k f) old r last → Counts (recordText k bs) old r last
 refusal-listed k bs {f} {old} e p =
-    started (refused-listed k bs e) (p .size) (omega (arith, refused-text-length k (paper (f .fault) .number) (f .place) (f .value))) (λ room. fits-puts (omega arith) p)
+    started (refused-listed k bs e) (p .size) (omega (arith, refused-text-length k f)) (λ room. fits-puts (omega arith) p)
 
 pub read-listed : (k : ℕ) (bs : List ℕ) {ps : List Part} {e : ℕ} → judged k bs ≡ parsed ps e
     → readText k e (length bs - e) ++ linesText (lines (layoutOf k) ps bs 0) ≡ recordText k bs

@@ -2,18 +2,17 @@
 -- that is not. Assumes nothing.
 use Prim.Native.Nat.{ℕ, _+_, _≤_}
 use mathlib.Core.Path.{_≡_, refl, ap, _∙_}
-use mathlib.Core.Logic.{_⊎_, inl, inr}
+use mathlib.Core.Logic.{_⊎_}
 use mathlib.Core.Bool.{true}
 use mathlib.Core.List.{List, [], _∷_, _++_}
 use lib.ListN.{length}
-use Rattle.faults.specs.declared.Fault.{Fault}
 use Rattle.faults.specs.declared.Fault.the-variants.{Short}
 use Rattle.faults.specs.declared.Refusal.{Refusal}
-use Rattle.faults.specs.Faults.{paper}
-use Rattle.wire.specs.Records.{refused}
+use Rattle.faults.specs.Faults.{short}
+use Rattle.wire.specs.Records.{refused, left}
 use Rattle.wire.specs.Reading.{read}
 use Rattle.wire.specs.Grammar.{Token, Spells, placed}
-use Rattle.wire.specs.Editions.{Newer, NewerIn, new-code, new-arm, Foreign}
+use Rattle.wire.specs.Editions.{Newer, Foreign}
 use Rattle.wire.specs.Lines.{lines}
 use Rattle.wire.proofs.Stand.{stands-start, bytes-front}
 use Rattle.wire.proofs.Complete.{spells-bytes}
@@ -37,33 +36,24 @@ module _ {e : Edition} (x : Extends e) (k : ℕ) {ts : List Token} {bs : List �
       let (c, same) = ours-kept (extension-is-later x k) d all in
       legal-record-is-listed k c tail some few ∙ ap (λ ps. readText k (length bs) (length tail) ++ linesText (lines (layoutOf k) ps (bs ++ tail) 0)) (same 0)
 
-  -- any other: refusal 2, UnknownCode, or 3, NoArm, at the first code or arm, in wire order, that is not ours
+  -- any other: the line of its refusal, which is UnknownCode or NoArm at the first code or arm, in wire order, that is not ours
   pub not-ours-is-listed : (AllOurs x k d → ⊥)
       → (f : Refusal) × Foreign (layoutOf k) (bs ++ tail) 0 (0 + length bs) f
-      × ((listing (k ∷ (bs ++ tail)) ≡ refusedText k 2 (f .place) (f .value)) ⊎ (listing (k ∷ (bs ++ tail)) ≡ refusedText k 3 (f .place) (f .value)))
+      × (listing (k ∷ (bs ++ tail)) ≡ refusedText k f)
   not-ours-is-listed foreign =
       let (f, g, p) = not-ours-is-refused x k (bs ++ tail) 0 refl d (stands-start bs tail) foreign in
-      (f, g, by f (g .newer) (first-fault-is-listed k (g .first) some few))
-    where
-      numbered : {n : ℕ} (f : Refusal) (t : Fault) → f .fault ≡ t → paper t .number ≡ n → listing (k ∷ (bs ++ tail)) ≡ refusedText k (paper (f .fault) .number) (f .place) (f .value)
-          → listing (k ∷ (bs ++ tail)) ≡ refusedText k n (f .place) (f .value)
-      numbered f t is number listed = listed ∙ ap (λ n. refusedText k n (f .place) (f .value)) (ap (λ t. paper t .number) is ∙ number)
-
-      by : (f : Refusal) → NewerIn 0 (0 + length bs) f → listing (k ∷ (bs ++ tail)) ≡ refusedText k (paper (f .fault) .number) (f .place) (f .value)
-          → (listing (k ∷ (bs ++ tail)) ≡ refusedText k 2 (f .place) (f .value)) ⊎ (listing (k ∷ (bs ++ tail)) ≡ refusedText k 3 (f .place) (f .value))
-      by f (new-code is from to) listed = inl (numbered f Fault.UnknownCode is refl listed)
-      by f (new-arm is from to) listed = inr (numbered f Fault.NoArm is refl listed)
+      (f, g, first-fault-is-listed k (g .first) some few)
 
 -- a record of the edition that is cut: xs is all that there is, and the record goes on
 module _ {e : Edition} (x : Extends e) (k : ℕ) (xs : List ℕ) (y : ℕ) (ys : List ℕ) {ts : List Token} (d : Spells (layoutIn e k) ts (xs ++ (y ∷ ys)))
     (some : isKind k ≡ true) (few : length xs ≤ 4096) where
-  refused-as : {f : Refusal} → read (layoutOf k) xs 0 ≡ refused f → listing (k ∷ xs) ≡ refusedText k (paper (f .fault) .number) (f .place) (f .value)
+  refused-as : {f : Refusal} → read (layoutOf k) xs 0 ≡ refused f → listing (k ∷ xs) ≡ refusedText k f
   refused-as {f} p = first-fault-is-listed k (refusal-is-first k xs 0 f (bytes-front xs (y ∷ ys) (spells-bytes d)) p) some few
 
-  -- if it is all ours: refusal 1, Short
-  pub cut-ours-is-listed : AllOurs x k d → (place : ℕ) × (needed : ℕ) × (listing (k ∷ xs) ≡ refusedText k 1 place needed)
+  -- if it is all ours: refusal 1, Short, and how many bytes there are from its place on
+  pub cut-ours-is-listed : AllOurs x k d → (place : ℕ) × (needed : ℕ) × (listing (k ∷ xs) ≡ refusedText k (short place needed (left xs place)))
   cut-ours-is-listed all = let (place, needed, p) = cut-ours-is-short x k [] xs y ys tt d refl all in (place, needed, refused-as p)
 
   -- and any: Short, or the refusal of a code or an arm that is not ours
-  pub cut-is-listed : (f : Refusal) × (listing (k ∷ xs) ≡ refusedText k (paper (f .fault) .number) (f .place) (f .value)) × ((f .fault ≡ Short) ⊎ Newer f)
+  pub cut-is-listed : (f : Refusal) × (listing (k ∷ xs) ≡ refusedText k f) × ((f .fault ≡ Short) ⊎ Newer f)
   cut-is-listed = let (f, p, why) = cut-is-refused x k [] xs y ys tt d refl in (f, refused-as p, why)

@@ -8,19 +8,21 @@ use mathlib.Core.List.{List, [], _∷_, _++_}
 use lib.ListN.{length, drop, length-append}
 use lib.Dec.{leb}
 use Rattle.faults.specs.declared.Refusal.{Refusal}
-use Rattle.faults.specs.Faults.{paper, noRoom, badKind, oversize}
+use Rattle.faults.specs.Faults.{noRoom, badKind, oversize}
 use Rattle.wire.specs.declared.measure.Measure.{Measure}
 use Rattle.wire.specs.Bytes.{Bytes, be}
 use Rattle.wire.specs.Layout.{_then_}
 use Rattle.wire.specs.Grammar.{Token, Spells, Starts, placed}
 use Rattle.wire.specs.Records.{Ans, found, refused, Parsed, parsed}
 use Rattle.wire.specs.Reading.{read, field, piece}
-use Rattle.wire.specs.Refusals.{Refuses}
+use Rattle.wire.specs.Refusals.{Refuses, Had}
 use Rattle.wire.proofs.Answers.{measure-answer-once}
+use Rattle.wire.proofs.Had.{other, other-had, Tells, either-tells, refused-tells}
 use Rattle.codes.specs.Codes.{isAlgorithm, algorithms}
 use Rattle.format.specs.Kinds.{tpmuSymKeyBitsArm, tpmuSymModeArm, isKind, kinds, tpmtSymDef, tpmuSymKeyBits, tpmuSymMode, layoutOf, readKind}
+use Rattle.format.proofs.Legal.{kind-tells}
 use Rattle.wire.specs.Lines.{lines}
-use Rattle.records.proofs.Promises.{legal-is-read, read-is-legal, first-is-refusal, legal-has-end}
+use Rattle.records.proofs.Promises.{legal-is-read, read-is-legal, first-is-refusal, refusal-says-what-it-had, legal-has-end}
 use Rattle.text.specs.Ascii.{ascii}
 use Rattle.text.specs.Text.{decimal, linesText, readText, refusedText}
 use Rattle.listing.specs.Listing.{judged, answerText, recordText, listing, answered, isFound, Lists}
@@ -64,11 +66,8 @@ no-room-asks-for-the-size k bs lists = too-little-room-changes-nothing lists (no
 
 -- ---- what is listed
 
-abbrev refusalText : (k : ℕ) → Refusal → List ℕ
-refusalText k f = refusedText k (paper (f .fault) .number) (f .place) (f .value)
-
 -- no byte at all: kind 0
-pub nothing-is-kind-zero : listing [] ≡ refusalText 0 (badKind 0)
+pub nothing-is-kind-zero : listing [] ≡ refusedText 0 (badKind 0)
 unfolding listing recordText judged
 nothing-is-kind-zero = refl
 
@@ -78,12 +77,12 @@ module _ (k : ℕ) where
   of-kind-text bs = refl
 
   -- a number that is no kind, whatever follows
-  pub no-kind-is-listed : (bs : List ℕ) → isKind k ≡ false → listing (k ∷ bs) ≡ refusalText k (badKind k)
+  pub no-kind-is-listed : (bs : List ℕ) → isKind k ≡ false → listing (k ∷ bs) ≡ refusedText k (badKind k)
   unfolding judged
   no-kind-is-listed bs none = sym (refused-listed k bs {f = badKind k} (rw none) ∙ of-kind-text bs)
 
   -- a record of more than 4,096 bytes, whatever they are
-  pub oversize-is-listed : (bs : List ℕ) → isKind k ≡ true → 4096 < length bs → listing (k ∷ bs) ≡ refusalText k oversize
+  pub oversize-is-listed : (bs : List ℕ) → isKind k ≡ true → 4096 < length bs → listing (k ∷ bs) ≡ refusedText k oversize
   oversize-is-listed bs some many = sym (refused-listed k bs {f = oversize} (judged-unread k bs many ∙ rw some) ∙ of-kind-text bs)
 
   -- bytes with a legal record of the kind in front: where it ends, how many bytes are left behind it, and its fields
@@ -99,9 +98,18 @@ module _ (k : ℕ) where
       ∙ ap (λ t. readText k (length bs) t ++ linesText (lines (layoutOf k) (placed d 0) (bs ++ tail) 0)) rest
 
   -- bytes that no legal record starts: the first fault in wire order
-  pub first-fault-is-listed : {bs : List ℕ} {f : Refusal} → Refuses bs (layoutOf k) 0 f → isKind k ≡ true → length bs ≤ 4096 → listing (k ∷ bs) ≡ refusalText k f
+  pub first-fault-is-listed : {bs : List ℕ} {f : Refusal} → Refuses bs (layoutOf k) 0 f → isKind k ≡ true → length bs ≤ 4096 → listing (k ∷ bs) ≡ refusedText k f
   unfolding readKind
   first-fault-is-listed {bs} {f} fault some few = sym (refused-listed k bs {f = f} (judged-read k bs few ∙ rw some (first-is-refusal k fault)) ∙ of-kind-text bs)
+
+-- a refusal is listed by its line, which says what it had: Short all the bytes that the record has from its place on, fewer than it needs;
+-- any other nothing. More bytes than are listed are not for want of bytes
+pub listed-refusal-says-what-it-had : (k : ℕ) (bs : List ℕ) (f : Refusal) → answered (k ∷ bs) ≡ refused f → (listing (k ∷ bs) ≡ refusedText k f) × Had bs f
+unfolding answered judged
+listed-refusal-says-what-it-had k bs f fails =
+    let had : Tells (Had bs) (judged k bs) =
+    kind-tells k bs _ (either-tells (Had bs) (leb (length bs) 4096) _ _ (refusal-says-what-it-had k bs 0) (refused-tells (Had bs) oversize (other-had (other 11 refl refl)))) in
+    (sym (refused-listed k bs fails ∙ of-kind-text k bs), had f fails)
 
 -- ---- whether it is a record
 
@@ -142,6 +150,6 @@ pub example-is-listed : listing (2 ∷ 0 ∷ 6 ∷ 0 ∷ 128 ∷ 0 ∷ 67 ∷ []
 unfolding listing recordText judged read layoutOf kinds tpmtSymDef field piece isAlgorithm algorithms be _then_ tpmuSymKeyBits tpmuSymKeyBitsArm tpmuSymModeArm tpmuSymMode decimal lines
 example-is-listed = refl
 
-pub cut-example-is-listed : listing (2 ∷ 0 ∷ 6 ∷ 0 ∷ 128 ∷ []) ≡ ascii "kind 2 refused 1 at 4 value 2\n"
+pub cut-example-is-listed : listing (2 ∷ 0 ∷ 6 ∷ 0 ∷ 128 ∷ []) ≡ ascii "kind 2 refused 1 at 4 value 2 had 0\n"
 unfolding listing recordText judged read layoutOf kinds tpmtSymDef field piece isAlgorithm algorithms be _then_ tpmuSymKeyBits tpmuSymKeyBitsArm tpmuSymModeArm tpmuSymMode decimal
 cut-example-is-listed = refl

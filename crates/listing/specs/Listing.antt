@@ -5,7 +5,7 @@ use mathlib.Core.Bool.{Bool, true, false, cond}
 use mathlib.Core.List.{List, [], _∷_, _++_}
 use lib.ListN.{length, drop}
 use lib.Dec.{leb}
-use Rattle.faults.specs.Faults.{paper, noRoom, badKind, oversize}
+use Rattle.faults.specs.Faults.{noRoom, badKind, oversize}
 use Rattle.wire.specs.declared.measure.Measure.{Measure}
 use Rattle.wire.specs.Answers.{measureAnswer}
 use Rattle.wire.specs.Records.{Ans, found, refused, Parsed}
@@ -24,10 +24,10 @@ judged k bs =
     (refused (badKind k))
 
 -- the text of an answer: of a record that was read, where it ends, how many bytes are left behind it, and the lines of its fields; of a
--- refusal, its number, place and value
+-- refusal, its number, place and value, and of Short what it had
 abbrev pub answerText : (kind : ℕ) (bytes : List ℕ) → Ans Parsed → List ℕ
 answerText k bs (found r) = readText k (r .stops) (length bs - r .stops) ++ linesText (lines (layoutOf k) (r .parts) bs 0)
-answerText k bs (refused f) = refusedText k (paper (f .fault) .number) (f .place) (f .value)
+answerText k bs (refused f) = refusedText k f
 
 -- the text for bytes that are said to be of that kind
 unfoldable pub recordText : (kind : ℕ) (bytes : List ℕ) → List ℕ

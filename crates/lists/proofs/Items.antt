@@ -9,14 +9,14 @@ use lib.ListN.{length, take, drop}
 use lib.Seq.{take-take, drop-drop}
 use borrow.Author.Tests.{le-leb}
 use Rattle.faults.specs.declared.Refusal.{Refusal}
-use Rattle.faults.specs.Faults.{noField}
+use Rattle.faults.specs.Faults.{placedAt, noField}
 use Rattle.wire.specs.declared.measure.Measure.{Measure}
 use Rattle.wire.specs.declared.span.Span.{Span}
 use Rattle.wire.specs.Answers.{startOf, lenOf, spanPart, measureAnswer}
 use Rattle.wire.specs.Bytes.{Bytes, be}
 use Rattle.wire.specs.Records.{Part, num, tag, span, Ans, found, refused, next, Parsed}
 use Rattle.wire.specs.Reading.{Reader, walk, endOf, read}
-use Rattle.wire.specs.Writing.{cut, whole, moved}
+use Rattle.wire.specs.Writing.{cut, whole, further, moved}
 use Rattle.wire.specs.Fields.{pickField, partOf}
 use Rattle.wire.specs.Items.{pickItem, itemOf}
 use Rattle.wire.specs.Places.{StandsAt, startIf, startAt, placeOf, itemStart}
@@ -183,8 +183,8 @@ pub no-items : (which : ListOf) (t : Span) (src : List ℕ) (i : ℕ) {m : Measu
 unfolding spellStep itemOf
 no-items which t src i {f = f} q p = by (cut src (startOf t) (lenOf t) 0) (told measureAnswer q (p .0))
   where
-    here : (g : Refusal) → g ≡ record { fault = g .fault; place = 0 + g .place; value = g .value }
-    here g = ap (λ n. record { fault = g .fault; place = n; value = g .value }) (sym (zero-add (g .place)))
+    here : (g : Refusal) → g ≡ further 0 g
+    here g = ap (λ n. placedAt n g) (sym (zero-add (g .place)))
 
     walked : (a : Ans (List ℕ)) (k : List ℕ → Ans (List ℕ)) → refused f ≡ after 0 (moved 0 a) → refused f ≡ next a k
     walked (found xs) k q = absurd (found-refused q)

@@ -248,7 +248,7 @@ module _ (which : ListOf) (t : Span) (src : List ℕ) where
 
 -- its count is there, and its items end with it
 module _ (which : ListOf) (xs : List ℕ) where
-  count-read : (b : Bool) → leb 4 (left xs 0) ≡ b → (read (one 4 free) xs 0 ≡ parsed (num (be (take 4 xs)) ∷ []) 4) ⊎ (whole (mostItems which) (itemLayout which) xs ≡ refused (short 0 4))
+  count-read : (b : Bool) → leb 4 (left xs 0) ≡ b → (read (one 4 free) xs 0 ≡ parsed (num (be (take 4 xs)) ∷ []) 4) ⊎ (whole (mostItems which) (itemLayout which) xs ≡ refused (short 0 4 (left xs 0)))
   unfolding read field piece whole list
   count-read true t = inl (rw t)
   count-read false t = inr (rw t)

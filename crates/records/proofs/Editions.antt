@@ -84,7 +84,7 @@ module _ {e : Edition} (x : Extends e) (k : ℕ) (src : List ℕ) (at : ℕ) {r 
 
 module _ {e : Edition} (x : Extends e) (k : ℕ) (before xs : List ℕ) (y : ℕ) (ys : List ℕ) (b : Bytes before) {ts : List Token} (d : Spells (layoutIn e k) ts (xs ++ (y ∷ ys))) where
   -- a record of the edition that is all ours and is cut is Short
-  pub cut-ours-is-short : {a : Ans Parsed} → a ≡ read (layoutOf k) (before ++ xs) (length before) → AllOurs x k d → IsShort a
+  pub cut-ours-is-short : {a : Ans Parsed} → a ≡ read (layoutOf k) (before ++ xs) (length before) → AllOurs x k d → IsShort (before ++ xs) a
   cut-ours-is-short told all = readers.cut-ours-is-short k before xs y ys told b (extension-is-later x k) d all
 
   -- any that is cut is refused: with Short, or for a code or an arm that is not ours

@@ -21,7 +21,7 @@ use Rattle.wire.proofs.Steps.{found-refused, found-same, refused-same, next-fou
 use Rattle.wire.proofs.Ours.{ours-kept, ours-is-read, not-ours-is-refused}
 use Rattle.format.specs.Kinds.{isKind, layoutOf, readKind}
 use Rattle.format.proofs.Numbered.{of-kind}
-use Rattle.format.proofs.Legal.{spelled-is-kind, legal-is-read-by-number, read-by-number-is-legal, refusal-by-number-is-first, first-is-refusal-by-number}
+use Rattle.format.proofs.Legal.{spelled-is-kind, legal-is-read-by-number, read-by-number-is-legal, refusal-by-number-is-first, first-is-refusal-by-number, refused-by-number-says-what-it-had}
 use Rattle.records.specs.Ends.{Ends}
 use Rattle.records.proofs.Promised.{cut-there, cut-ours-there, later-cut-there}
 
@@ -78,6 +78,7 @@ module _ (k : ℕ) (src : List ℕ) (at : ℕ) (r : Measure) (answer : measureAn
         none-means-refused = none-refused;
         refusal-is-first = λ e. refusal-by-number-is-first k src at b (no-end (readKind k src at) (told e));
         first-is-refusal = λ {f} d. answers (Measure.No f) (ap endOf (first-is-refusal-by-number k d));
+        refusal-says-what-it-had = λ {f} e. refused-by-number-says-what-it-had k src at f (no-end (readKind k src at) (told e));
         cut-is-short = λ y ys inside d. let (place, needed, p) = cut-there (layoutOf k) src at b y ys inside d in (place, needed, by-layout (spelled-is-kind k d) (ap endOf p));
         ours-has-end = ours-ends;
         not-ours-has-no-end = not-ours-refused;

@@ -17,6 +17,7 @@ use Rattle.wire.proofs.Stand.{bytes-front}
 use Rattle.wire.proofs.Complete.{read-complete, placed-shows}
 use Rattle.wire.proofs.Prefix as prefix
 use Rattle.wire.proofs.Refused.{refuses-read, read-refuses}
+use Rattle.wire.proofs.Had.{refused-says-what-it-had, refused-whole-says-what-it-had}
 use Rattle.wire.proofs.Stable.{cut-short}
 use Rattle.wire.proofs.Ours as ours
 use Rattle.wire.proofs.Whole.{refused-is-refused-whole}
@@ -32,10 +33,10 @@ module _ (l : Layout) (src : List ℕ) (at : ℕ) (b : Bytes src) (y : ℕ) (ys 
   front : Bytes (take at src)
   front = bytes-front (take at src) (drop at src) (rw (take-append-drop at src) b)
 
-  pub cut-there : {ts : List Token} → Spells l ts (drop at src ++ (y ∷ ys)) → IsShort (read l src at)
+  pub cut-there : {ts : List Token} → Spells l ts (drop at src ++ (y ∷ ys)) → IsShort src (read l src at)
   cut-there d = let (place, needed, p) = cut-short (take at src) (drop at src) y ys front d in (place, needed, rw (take-append-drop at src, size) at p)
 
-  pub cut-ours-there : {l′ : Layout} {ts : List Token} (x : Later l l′) (d : Spells l′ ts (drop at src ++ (y ∷ ys))) → Ours x d → IsShort (read l src at)
+  pub cut-ours-there : {l′ : Layout} {ts : List Token} (x : Later l l′) (d : Spells l′ ts (drop at src ++ (y ∷ ys))) → Ours x d → IsShort src (read l src at)
   cut-ours-there x d all = let (place, needed, p) = ours.cut-ours-is-short (take at src) (drop at src) y ys front x d all in (place, needed, rw (take-append-drop at src, size) at p)
 
   pub later-cut-there : {l′ : Layout} {ts : List Token} → Later l l′ → Spells l′ ts (drop at src ++ (y ∷ ys)) → (f : Refusal) × (read l src at ≡ refused f) × ((f .fault ≡ Short) ⊎ Newer f)
@@ -64,6 +65,7 @@ module _ (l : Layout) (src : List ℕ) (at : ℕ) {a : Ans Parsed} where
           none-means-refused = λ none. let (f, p) = prefix.none-refused l src at b none in (f, told ∙ p);
           refusal-is-first = λ {f} fails. read-refuses l src at f b (sym told ∙ fails);
           first-is-refusal = λ first. told ∙ refuses-read first;
+          refusal-says-what-it-had = λ {f} fails. refused-says-what-it-had l src at f (sym told ∙ fails);
           ours-is-read = λ x d stands all. told ∙ ours.ours-is-read x d stands all;
           not-ours-is-refused = λ x d stands foreign. let (f, g, p) = ours.not-ours-is-refused x d stands foreign in (f, g, told ∙ p);
           cut-is-short = λ y ys inside d. let (place, needed, p) = cut-there l src at b y ys inside d in (place, needed, told ∙ p);
@@ -81,6 +83,7 @@ module _ (l : Layout) (src : List ℕ) (at : ℕ) {a : Ans Parsed} where
           all-is-accepted = λ d alone. told ∙ whole.legal-is-accepted-whole l src at d alone;
           refusal-says-why = λ f fails. whole.whole-refusal-says-why l src at f b (sym told ∙ fails);
           why-is-refusal = λ why. told ∙ whole.why-is-whole-refusal l src at why;
+          refusal-says-what-it-had = λ {f} fails. refused-whole-says-what-it-had l src at f (sym told ∙ fails);
           ours-is-read = λ x d alone all. told ∙ ours.ours-is-read-whole src at x d alone all;
           ours-with-a-tail-is-trailing = λ x d stands more all. told ∙ ours.ours-with-a-tail-is-trailing x d stands more all;
           not-ours-is-refused = λ x d stands foreign. let (f, g, p) = ours.not-ours-is-refused-whole x d stands foreign in (f, g, told ∙ p);

@@ -12,7 +12,7 @@ use Rattle.wire.specs.Layout.{Layout}
 use Rattle.wire.specs.Records.{found, refused, Parsed, parsed}
 use Rattle.wire.specs.Reading.{read, endOf, IsShort}
 use Rattle.wire.specs.Grammar.{Token, Spells, Stands, Starts, placed, shown}
-use Rattle.wire.specs.Refusals.{Refuses}
+use Rattle.wire.specs.Refusals.{Refuses, Had}
 use Rattle.wire.specs.Editions.{Later, Ours, Newer, Foreign}
 use Rattle.wire.proofs.Stand.{stands-start}
 use Rattle.wire.proofs.Steps.{next-found, found-same}
@@ -20,6 +20,7 @@ use Rattle.wire.proofs.Complete.{read-complete, placed-shows}
 use Rattle.wire.proofs.Sound.{read-sound}
 use Rattle.wire.proofs.Prefix.{starts-read, refused-none, none-refused, prefix-free, one-spelling}
 use Rattle.wire.proofs.Refused.{refuses-read, read-refuses}
+use Rattle.wire.proofs.Had.{refused-says-what-it-had}
 use Rattle.wire.proofs.Stable.{cut-short}
 use Rattle.wire.proofs.Ours as ours
 use Rattle.format.specs.Kinds.{isKind, layoutOf, readKind}
@@ -52,6 +53,10 @@ module _ (k : ℕ) where
   pub first-is-refusal : {src : List ℕ} {at : ℕ} {f : Refusal} → Refuses src (layoutOf k) at f → read (layoutOf k) src at ≡ refused f
   first-is-refusal = refuses-read
 
+  -- it says what it had
+  pub refusal-says-what-it-had : (src : List ℕ) (at : ℕ) (f : Refusal) → read (layoutOf k) src at ≡ refused f → Had src f
+  refusal-says-what-it-had = refused-says-what-it-had (layoutOf k)
+
   -- ---- records side by side, and cut
 
   pub no-record-begins-another : {ts us : List Token} {bs : List ℕ} (more : List ℕ) → Spells (layoutOf k) ts bs → Spells (layoutOf k) us (bs ++ more) → (more ≡ []) × (ts ≡ us)
@@ -60,7 +65,7 @@ module _ (k : ℕ) where
   pub one-record-one-spelling : {ts : List Token} {bs cs : List ℕ} → Spells (layoutOf k) ts bs → Spells (layoutOf k) ts cs → bs ≡ cs
   one-record-one-spelling = one-spelling
 
-  pub cut-is-short : {ts : List Token} (before xs : List ℕ) (y : ℕ) (ys : List ℕ) → Bytes before → Spells (layoutOf k) ts (xs ++ (y ∷ ys)) → IsShort (read (layoutOf k) (before ++ xs) (length before))
+  pub cut-is-short : {ts : List Token} (before xs : List ℕ) (y : ℕ) (ys : List ℕ) → Bytes before → Spells (layoutOf k) ts (xs ++ (y ∷ ys)) → IsShort (before ++ xs) (read (layoutOf k) (before ++ xs) (length before))
   cut-is-short = cut-short
 
   -- ---- later editions
@@ -77,7 +82,7 @@ module _ (k : ℕ) where
 
   -- one that is all ours and is cut is Short
   pub cut-ours-is-short : {l′ : Layout} {ts : List Token} (before xs : List ℕ) (y : ℕ) (ys : List ℕ) → Bytes before → (x : Later (layoutOf k) l′) (d : Spells l′ ts (xs ++ (y ∷ ys))) → Ours x d
-      → IsShort (read (layoutOf k) (before ++ xs) (length before))
+      → IsShort (before ++ xs) (read (layoutOf k) (before ++ xs) (length before))
   cut-ours-is-short = ours.cut-ours-is-short
 
   -- and any that is cut is refused

@@ -19,11 +19,12 @@ use Rattle.wire.specs.Layout.{Layout, noArm}
 use Rattle.wire.specs.Records.{Part, Ans, refused, Parsed, parsed, left}
 use Rattle.wire.specs.Reading.{read, readWhole, endOf, IsShort}
 use Rattle.wire.specs.Grammar.{Token, Spells, Stands, Starts, placed, shown}
-use Rattle.wire.specs.Refusals.{Refuses, RefusesWhole, first-fault, left-over}
+use Rattle.wire.specs.Refusals.{Refuses, RefusesWhole, first-fault, left-over, Had}
 use Rattle.wire.specs.Unions.{isArm}
 use Rattle.wire.specs.Editions.{Later, Ours, Newer, Foreign}
 use Rattle.wire.proofs.Complete.{read-complete, placed-shows}
 use Rattle.wire.proofs.Prefix as prefix
+use Rattle.wire.proofs.Had.{refused-whole-says-what-it-had}
 use Rattle.wire.proofs.Ours as ours
 use Rattle.wire.proofs.Answers.{measure-answer-once}
 use Rattle.wire.proofs.Whole.{whole-is-read}
@@ -86,6 +87,10 @@ module _ (k : ℕ) (src : List ℕ) (at : ℕ) {a : Ans Parsed} (told : a ≡ re
   pub first-is-refusal : {f : Refusal} → Refuses src (layoutOf k) at f → a ≡ refused f
   first-is-refusal faulty = told ∙ promises.first-is-refusal k faulty
 
+  -- it says what it had
+  pub refusal-says-what-it-had : {f : Refusal} → a ≡ refused f → Had src f
+  refusal-says-what-it-had {f} fails = promises.refusal-says-what-it-had k src at f (sym told ∙ fails)
+
   -- where a legal record of a later edition starts: if its codes and arms are all ours, it is accepted with its fields and ends where it
   -- ends, whatever stands behind
   pub ours-is-read : {l′ : Layout} {ts : List Token} {bs : List ℕ} (x : Later (layoutOf k) l′) (d : Spells l′ ts bs) → Stands src at bs → Ours x d
@@ -101,11 +106,11 @@ module _ (k : ℕ) (src : List ℕ) (at : ℕ) {a : Ans Parsed} (told : a ≡ re
 
 module _ (k : ℕ) (before xs : List ℕ) (y : ℕ) (ys : List ℕ) {a : Ans Parsed} (told : a ≡ read (layoutOf k) (before ++ xs) (length before)) where
   -- the beginning of a legal record is Short
-  pub cut-is-short : {ts : List Token} → Bytes before → Spells (layoutOf k) ts (xs ++ (y ∷ ys)) → IsShort a
+  pub cut-is-short : {ts : List Token} → Bytes before → Spells (layoutOf k) ts (xs ++ (y ∷ ys)) → IsShort (before ++ xs) a
   cut-is-short b d = let (place, needed, p) = promises.cut-is-short k before xs y ys b d in (place, needed, told ∙ p)
 
   -- that of a later edition's record that is all ours is Short too
-  pub cut-ours-is-short : {l′ : Layout} {ts : List Token} → Bytes before → (x : Later (layoutOf k) l′) (d : Spells l′ ts (xs ++ (y ∷ ys))) → Ours x d → IsShort a
+  pub cut-ours-is-short : {l′ : Layout} {ts : List Token} → Bytes before → (x : Later (layoutOf k) l′) (d : Spells l′ ts (xs ++ (y ∷ ys))) → Ours x d → IsShort (before ++ xs) a
   cut-ours-is-short b x d all = let (place, needed, p) = promises.cut-ours-is-short k before xs y ys b x d all in (place, needed, told ∙ p)
 
   -- that of any other is Short, or refused for a code or an arm that is not ours
@@ -141,6 +146,10 @@ module _ (k : ℕ) (src : List ℕ) (at : ℕ) {a : Ans Parsed} (told : a ≡ re
   -- and what is refused is refused for one of these two
   pub whole-refusal-says-why : {f : Refusal} → Bytes src → a ≡ refused f → RefusesWhole src (layoutOf k) at f
   whole-refusal-says-why {f} b fails = whole.whole-refusal-says-why (layoutOf k) src at f b (sym told ∙ fails)
+
+  -- it says what it had
+  pub whole-refusal-says-what-it-had : {f : Refusal} → a ≡ refused f → Had src f
+  whole-refusal-says-what-it-had {f} fails = refused-whole-says-what-it-had (layoutOf k) src at f (sym told ∙ fails)
 
   -- a legal record of a later edition that is all that stands there is accepted, if it is all ours
   pub ours-is-read-whole : {l′ : Layout} {ts : List Token} {bs : List ℕ} (x : Later (layoutOf k) l′) (d : Spells l′ ts bs) → drop at src ≡ bs → Ours x d → a ≡ parsed (placed d at) (at + length bs)

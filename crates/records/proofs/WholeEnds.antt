@@ -16,16 +16,17 @@ use Rattle.wire.specs.Layout.{Layout}
 use Rattle.wire.specs.Records.{Ans, found, refused}
 use Rattle.wire.specs.Reading.{read, readWhole, endOf}
 use Rattle.wire.specs.Grammar.{Token, Spells, Stands, Starts}
-use Rattle.wire.specs.Refusals.{RefusesWhole, first-fault, left-over}
+use Rattle.wire.specs.Refusals.{RefusesWhole, first-fault, left-over, Had}
 use Rattle.wire.specs.Editions.{Later, Ours, Foreign}
 use Rattle.wire.proofs.Answers.{measure-answer-once}
 use Rattle.wire.proofs.Steps.{found-same, refused-same, next-found, when-found}
+use Rattle.wire.proofs.Had.{refused-whole-says-what-it-had}
 use Rattle.wire.proofs.Ours as ours
 use Rattle.wire.proofs.Whole.{refused-is-refused-whole}
 use Rattle.wire.proofs.WholeExactly as whole
 use Rattle.format.specs.Kinds.{isKind, layoutOf}
 use Rattle.format.specs.Refused.{RefusesKind, no-kind, in-record}
-use Rattle.format.proofs.Legal.{spelled-is-kind}
+use Rattle.format.proofs.Legal.{spelled-is-kind, kind-tells}
 use Rattle.records.specs.Ends.{readKindWhole, IsWhole, WholeEnds}
 use Rattle.records.proofs.Promised.{cut-there, cut-ours-there, later-cut-there}
 use Rattle.records.proofs.Ends.{no-end}
@@ -85,6 +86,11 @@ module _ (k : ℕ) (src : List ℕ) (at : ℕ) (r : Measure) (answer : measureAn
   first-refused {f} (no-kind none same) = answers (Measure.No f) (ap endOf (sym (no-whole-kind k src at none)) ∙ ap refused (sym same))
   first-refused {f} (in-record some d) = by-layout some (ap endOf (whole.why-is-whole-refusal (layoutOf k) src at (first-fault d)))
 
+  says-what-it-had : {f : Refusal} → r ≡ Measure.No f → Had src f
+  unfolding readKindWhole
+  says-what-it-had {f} given =
+      kind-tells k src (readWhole (layoutOf k) src at) (refused-whole-says-what-it-had (layoutOf k) src at) f (no-end (readKindWhole k src at) (told given))
+
   tail-trailing : {e : ℕ} → Starts (layoutOf k) src at e → e < length src → r ≡ Measure.No (trailing e (length src - e))
   tail-trailing {e} d more = by-layout (spelled-is-kind k (d .spells)) (ap endOf (whole.why-is-whole-refusal (layoutOf k) src at (left-over e d more refl)))
 
@@ -108,6 +114,7 @@ module _ (k : ℕ) (src : List ℕ) (at : ℕ) (r : Measure) (answer : measureAn
         refusal-is-first = why-refused;
         first-is-refusal = first-refused;
         tail-is-trailing = tail-trailing;
+        refusal-says-what-it-had = says-what-it-had;
         ours-has-end = ours-end;
         not-ours-has-no-end = not-ours-refused;
         cut-is-short = λ y ys inside d. let (place, needed, p) = cut-there (layoutOf k) src at b y ys inside d in (place, needed, by-layout (spelled-is-kind k d) (cut-whole p));

@@ -11,9 +11,10 @@ use Rattle.faults.specs.Faults.{short, badKind, trailing}
 use Rattle.wire.specs.declared.measure.Measure.{Measure}
 use Rattle.wire.specs.Answers.{measureAnswer}
 use Rattle.wire.specs.Layout.{Layout}
-use Rattle.wire.specs.Records.{refused, Parsed}
+use Rattle.wire.specs.Records.{refused, Parsed, left}
 use Rattle.wire.specs.Reading.{Reader, readWhole, endOf}
 use Rattle.wire.specs.Grammar.{Token, Spells, Stands, Starts}
+use Rattle.wire.specs.Refusals.{Had}
 use Rattle.wire.specs.Editions.{Later, Ours, Newer, Foreign}
 use Rattle.format.specs.Kinds.{isKind, layoutOf, readKind}
 use Rattle.format.specs.Refused.{RefusesKind}
@@ -34,9 +35,11 @@ pub record Ends (kind : ℕ) (src : List ℕ) (at : ℕ) (r : Measure) : Type 0 
   pub refusal-is-first : {f : Refusal} → r ≡ Measure.No f → RefusesKind kind src at f
   -- and what says so is answered
   pub first-is-refusal : {f : Refusal} → RefusesKind kind src at f → r ≡ Measure.No f
-  -- a legal record of which the input has only the beginning is Short
+  -- it says what it had
+  pub refusal-says-what-it-had : {f : Refusal} → r ≡ Measure.No f → Had src f
+  -- a legal record of which the input has only the beginning is Short, which had what stands from its place to the cut
   pub cut-is-short : {ts : List Token} (y : ℕ) (ys : List ℕ) → at ≤ length src → Spells (layoutOf kind) ts (drop at src ++ (y ∷ ys))
-      → (place : ℕ) × (needed : ℕ) × (r ≡ Measure.No (short place needed))
+      → (place : ℕ) × (needed : ℕ) × (r ≡ Measure.No (short place needed (left src place)))
   -- a record of a later edition that starts there, with anything after it: if its codes and arms are all ours, its end is answered
   pub ours-has-end : {l′ : Layout} {ts : List Token} {bs : List ℕ} (x : Later (layoutOf kind) l′) (d : Spells l′ ts bs) → Stands src at bs → Ours x d
       → r ≡ Measure.Size (at + length bs)
@@ -45,7 +48,7 @@ pub record Ends (kind : ℕ) (src : List ℕ) (at : ℕ) (r : Measure) : Type 0 
       → (f : Refusal) × Foreign (layoutOf kind) src at (at + length bs) f × (r ≡ Measure.No f)
   -- one of which the input has only the beginning is Short if it is all ours, and else Short, or refused for a code or an arm that is not ours
   pub cut-ours-is-short : {l′ : Layout} {ts : List Token} (y : ℕ) (ys : List ℕ) → at ≤ length src → (x : Later (layoutOf kind) l′) (d : Spells l′ ts (drop at src ++ (y ∷ ys))) → Ours x d
-      → (place : ℕ) × (needed : ℕ) × (r ≡ Measure.No (short place needed))
+      → (place : ℕ) × (needed : ℕ) × (r ≡ Measure.No (short place needed (left src place)))
   pub later-cut-is-refused : {l′ : Layout} {ts : List Token} (y : ℕ) (ys : List ℕ) → isKind kind ≡ true → at ≤ length src → Later (layoutOf kind) l′ → Spells l′ ts (drop at src ++ (y ∷ ys))
       → (f : Refusal) × (r ≡ Measure.No f) × ((f .fault ≡ Short) ⊎ Newer f)
 
@@ -73,17 +76,19 @@ pub record WholeEnds (kind : ℕ) (src : List ℕ) (at : ℕ) (r : Measure) : Ty
   -- and what says so is answered
   pub first-is-refusal : {f : Refusal} → RefusesKind kind src at f → r ≡ Measure.No f
   pub tail-is-trailing : {e : ℕ} → Starts (layoutOf kind) src at e → e < length src → r ≡ Measure.No (trailing e (length src - e))
+  -- it says what it had
+  pub refusal-says-what-it-had : {f : Refusal} → r ≡ Measure.No f → Had src f
   -- a record of a later edition that is all there is: if its codes and arms are all ours, its end is answered
   pub ours-has-end : {l′ : Layout} {ts : List Token} {bs : List ℕ} (x : Later (layoutOf kind) l′) (d : Spells l′ ts bs) → drop at src ≡ bs → Ours x d
       → r ≡ Measure.Size (at + length bs)
   -- and any other is refused at the first code or arm that is not ours, which lies in the record
   pub not-ours-has-no-end : {l′ : Layout} {ts : List Token} {bs : List ℕ} → isKind kind ≡ true → (x : Later (layoutOf kind) l′) (d : Spells l′ ts bs) → Stands src at bs → (Ours x d → ⊥)
       → (f : Refusal) × Foreign (layoutOf kind) src at (at + length bs) f × (r ≡ Measure.No f)
-  -- a legal record of which the input has only the beginning is Short
+  -- a legal record of which the input has only the beginning is Short, which had what stands from its place to the cut
   pub cut-is-short : {ts : List Token} (y : ℕ) (ys : List ℕ) → at ≤ length src → Spells (layoutOf kind) ts (drop at src ++ (y ∷ ys))
-      → (place : ℕ) × (needed : ℕ) × (r ≡ Measure.No (short place needed))
+      → (place : ℕ) × (needed : ℕ) × (r ≡ Measure.No (short place needed (left src place)))
   -- one of which the input has only the beginning is Short if it is all ours, and else Short, or refused for a code or an arm that is not ours
   pub cut-ours-is-short : {l′ : Layout} {ts : List Token} (y : ℕ) (ys : List ℕ) → at ≤ length src → (x : Later (layoutOf kind) l′) (d : Spells l′ ts (drop at src ++ (y ∷ ys))) → Ours x d
-      → (place : ℕ) × (needed : ℕ) × (r ≡ Measure.No (short place needed))
+      → (place : ℕ) × (needed : ℕ) × (r ≡ Measure.No (short place needed (left src place)))
   pub later-cut-is-refused : {l′ : Layout} {ts : List Token} (y : ℕ) (ys : List ℕ) → isKind kind ≡ true → at ≤ length src → Later (layoutOf kind) l′ → Spells l′ ts (drop at src ++ (y ∷ ys))
       → (f : Refusal) × (r ≡ Measure.No f) × ((f .fault ≡ Short) ⊎ Newer f)

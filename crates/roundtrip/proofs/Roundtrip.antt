@@ -24,13 +24,14 @@ use Rattle.wire.proofs.Stand.{stands-start}
 use Rattle.wire.proofs.Steps.{found-refused, found-same, refused-same, parsed-same}
 use Rattle.wire.proofs.Complete.{read-complete, placed-shows}
 use Rattle.wire.proofs.Written.{read-then-lay, lay-sound, lay-then-read}
+use Rattle.wire.proofs.Had.{refused-write-had-few}
 use Rattle.wire.proofs.Unwritten.{lay-unwritten}
 use Rattle.format.specs.Kinds.{isKind, layoutOf, readKind}
 use Rattle.format.proofs.Numbered.{of-kind, no-kind-read}
 use Rattle.steps.specs.Writes.{Writes}
 use Rattle.wire.specs.Within.{Within}
 use Rattle.copies.specs.Copied.{bytesRead, recordBytes, Begins, Copies}
-use Rattle.copies.proofs.Lent.{room-is-used, size-is-of-bytes, refusal-or-no-room, refusal-changes-nothing}
+use Rattle.copies.proofs.Lent.{room-is-used, size-is-of-bytes, refusal-or-no-room, lent-had-few, refusal-changes-nothing}
 use Rattle.copies.proofs.Laid.{legal-laid}
 use Rattle.copies.proofs.Copied.{copies}
 use Rattle.roundtrip.specs.Roundtrip.{ReadsBack, Rewrites, Again}
@@ -93,6 +94,7 @@ module _ (l : Layout) (ps : List Part) (src old last : List ℕ) (b : Bytes src)
           legal-is-back = legal-back;
           kept = λ p. (buffer ∙ refusal-changes-nothing old (lay l ps src 0) (writer-refused p), writer-refused p);
           refusal-is-first = why-refused;
+          refusal-had-few = λ {f} p. lent-had-few old (lay l ps src 0) (refused-write-had-few l ps src 0) f (writer-refused p);
         }
 
 -- ---- for `search`: a writer answered m, and then a reader of what the buffer holds

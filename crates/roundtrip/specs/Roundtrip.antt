@@ -12,6 +12,7 @@ use Rattle.wire.specs.Layout.{Layout}
 use Rattle.wire.specs.Records.{Part, Ans, refused, next, Parsed, parsed}
 use Rattle.wire.specs.Reading.{read}
 use Rattle.wire.specs.Grammar.{Token, Spells, shown}
+use Rattle.wire.specs.Refusals.{HadFew}
 use Rattle.wire.specs.Writing.{lay}
 use Rattle.wire.specs.Filling.{written, filled}
 use Rattle.wire.specs.Unwritten.{Unwritten}
@@ -36,6 +37,8 @@ pub record ReadsBack (l : Layout) (ps : List Part) (src old : List ℕ) (a : Ans
   -- it names the first field, in wire order, that may not be written, or says how much room the legal record needs
   pub refusal-is-first : {f : Refusal} → a ≡ refused f
       → Unwritten src l ps 0 f ⊎ ((bs : List ℕ) × Spells l (shown src ps) bs × (length old < length bs) × (f ≡ noRoom 0 (length bs)))
+  -- it had no bytes, unless it is Short, of a list, and then fewer than it needs
+  pub refusal-had-few : {f : Refusal} → a ≡ refused f → HadFew f
 
 -- A record that a reader answered of the front of src was written: its size and its bytes, or the first refusal. This determines the answer
 -- r, and what the buffer holds afterwards

@@ -26,11 +26,11 @@ use Rattle.steps.specs.Walks.{Here, here, putting, seeking, refusing, fi
 
 -- ---- what a walk is for
 
-pub found-at : (t : Span) (a n : ℕ) → a ≡ startOf t → n ≡ lenOf t → record { mode = 5; at = a; value = n } ≡ finding t
+pub found-at : (t : Span) (a n : ℕ) → a ≡ startOf t → n ≡ lenOf t → record { mode = 5; at = a; value = n; had = 0 } ≡ finding t
 found-at t a n p q = rw (p, q)
 
-pub refusing-by : (f : Refusal) (n m : ℕ) → n ≡ paper (f .fault) .number → m ≡ 5 + n → record { mode = m; at = f .place; value = f .value } ≡ refusing f
-refusing-by f n m e p = let same : m ≡ suc (suc (suc (suc (suc (paper (f .fault) .number))))) = omega arith in ap (λ x. record { mode = x; at = f .place; value = f .value }) same
+pub refusing-by : (f : Refusal) (n m : ℕ) → n ≡ paper (f .fault) .number → m ≡ 5 + n → record { mode = m; at = f .place; value = f .value; had = f .had } ≡ refusing f
+refusing-by f n m e p = let same : m ≡ suc (suc (suc (suc (suc (paper (f .fault) .number))))) = omega arith in ap (λ x. record { mode = x; at = f .place; value = f .value; had = f .had }) same
 
 pub fault-by : (n k : ℕ) (r : Fault) → n ≡ k → r ≡ faultOf k → r ≡ faultOf n
 fault-by n k r e p = p ∙ ap faultOf (sym e)
@@ -92,17 +92,17 @@ module _ (w : Walk) where
   unfolding walkAnswer
   answer-list e = ap (λ m. answerBy m w) (sym e)
 
-  pub answer-no : (n : ℕ) (k : Fault) → 3 ≤ w .mode → (w .mode ≡ 3 → ⊥) → (w .mode ≡ 4 → ⊥) → n ≡ w .mode - 5 → k ≡ faultOf n → refused (refusal k (w .at) (w .value)) ≡ walkAnswer w
+  pub answer-no : (n : ℕ) (k : Fault) → 3 ≤ w .mode → (w .mode ≡ 3 → ⊥) → (w .mode ≡ 4 → ⊥) → n ≡ w .mode - 5 → k ≡ faultOf n → refused (refusal k (w .at) (w .value) (w .had)) ≡ walkAnswer w
   unfolding walkAnswer
   answer-no n k h o q e p = by (w .mode) h o q e
     where
-      by : (m : ℕ) → 3 ≤ m → (m ≡ 3 → ⊥) → (m ≡ 4 → ⊥) → n ≡ m - 5 → refused (refusal k (w .at) (w .value)) ≡ answerBy m w
+      by : (m : ℕ) → 3 ≤ m → (m ≡ 3 → ⊥) → (m ≡ 4 → ⊥) → n ≡ m - 5 → refused (refusal k (w .at) (w .value) (w .had)) ≡ answerBy m w
       by zero h o q e = absurd (omega arith)
       by (suc zero) h o q e = absurd (omega arith)
       by (suc (suc zero)) h o q e = absurd (omega arith)
       by (suc (suc (suc zero))) h o q e = absurd (o refl)
       by (suc (suc (suc (suc zero)))) h o q e = absurd (q refl)
-      by (suc (suc (suc (suc (suc j))))) h o q e = let same : n ≡ j = omega arith in ap (λ x. refused (refusal x (w .at) (w .value))) (p ∙ ap faultOf same)
+      by (suc (suc (suc (suc (suc j))))) h o q e = let same : n ≡ j = omega arith in ap (λ x. refused (refusal x (w .at) (w .value) (w .had))) (p ∙ ap faultOf same)
 
 -- ---- seeking
 

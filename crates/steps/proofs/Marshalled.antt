@@ -26,7 +26,7 @@ pub use borrow.Author.Needs.{needs}
 
 pub refusing-answer : (f : Refusal) → walkAnswer (refusing f) ≡ refused f
 unfolding walkAnswer
-refusing-answer f = ap (λ k. refused (refusal k (f .place) (f .value))) (numbered (f .fault))
+refusing-answer f = ap (λ k. refused (refusal k (f .place) (f .value) (f .had))) (numbered (f .fault))
 
 -- what the second walk leaves, by what the first found
 module _ (ss : List Step) (src old : List ℕ) where

@@ -55,7 +55,7 @@ module _ (src : List ℕ) (at n : ℕ) (here : at ≤ n) where
       test true m e = g m e
       test false m e = rw (breach-place r at m) here
 
-      by : (b : Bool) (xs : List ℕ) → Within (next (next (cond b (found xs) (refused (short at w))) (λ xs. cond (allows r (be xs)) (found (be xs)) (refused (breach r at (be xs))))) k) n
+      by : (b : Bool) (xs : List ℕ) → Within (next (next (cond b (found xs) (refused (short at w (left src at)))) (λ xs. cond (allows r (be xs)) (found (be xs)) (refused (breach r at (be xs))))) k) n
       by true xs = test (allows r (be xs)) (be xs) refl
       by false xs = here
 
@@ -63,7 +63,7 @@ module _ (src : List ℕ) (at n : ℕ) (here : at ≤ n) where
   unfolding piece
   piece-within m k g = by (leb m (left src at))
     where
-      by : (b : Bool) → Within (next (cond b (found (take m (drop at src))) (refused (short at m))) k) n
+      by : (b : Bool) → Within (next (cond b (found (take m (drop at src))) (refused (short at m (left src at)))) k) n
       by true = g (take m (drop at src))
       by false = here
 

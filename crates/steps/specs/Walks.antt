@@ -37,31 +37,31 @@ here w xs = record { walk = w; out = xs }
 
 -- 0: the record is judged; `at` is the place of the next field
 abbrev pub judging : (at : ℕ) → Walk
-judging at = record { mode = 0; at = at; value = 0 }
+judging at = record { mode = 0; at = at; value = 0; had = 0 }
 
 -- 1: it is put; `at` is the place in the buffer
 abbrev pub putting : (at : ℕ) → Walk
-putting at = record { mode = 1; at = at; value = 0 }
+putting at = record { mode = 1; at = at; value = 0; had = 0 }
 
 -- 2: a byte field is sought, so many further on
 abbrev pub seeking : ℕ → Walk
-seeking i = record { mode = 2; at = i; value = 0 }
+seeking i = record { mode = 2; at = i; value = 0; had = 0 }
 
 -- 3: the lines of a listing are put; `at` is the place of the next field, `end` that in the text: so many bytes it has so far
 abbrev pub lining : (at end : ℕ) → Walk
-lining at end = record { mode = 3; at = at; value = end }
+lining at end = record { mode = 3; at = at; value = end; had = 0 }
 
 -- 4: the record's list is sought
 abbrev pub listSeeking : Walk
-listSeeking = record { mode = 4; at = 0; value = 0 }
+listSeeking = record { mode = 4; at = 0; value = 0; had = 0 }
 
 -- 5: what was sought is found, and stands there
 abbrev pub finding : Span → Walk
-finding t = record { mode = 5; at = startOf t; value = lenOf t }
+finding t = record { mode = 5; at = startOf t; value = lenOf t; had = 0 }
 
 -- 5 and the number of a fault: refused
 abbrev pub refusing : Refusal → Walk
-refusing f = record { mode = suc (suc (suc (suc (suc (paper (f .fault) .number))))); at = f .place; value = f .value }
+refusing f = record { mode = suc (suc (suc (suc (suc (paper (f .fault) .number))))); at = f .place; value = f .value; had = f .had }
 
 -- behind so many bytes, of a record or of a text, nothing is judged or listed; none is so long
 abbrev pub far : ℕ
@@ -297,7 +297,7 @@ answerBy (suc zero) w = found (w .at)
 answerBy (suc (suc zero)) w = found (w .at)
 answerBy (suc (suc (suc zero))) w = found (w .value)
 answerBy (suc (suc (suc (suc zero)))) w = found (w .at)
-answerBy (suc (suc (suc (suc (suc n))))) w = refused (refusal (faultOf n) (w .at) (w .value))
+answerBy (suc (suc (suc (suc (suc n))))) w = refused (refusal (faultOf n) (w .at) (w .value) (w .had))
 
 -- how far a walk came, or why it was refused
 unfoldable pub walkAnswer : Walk → Ans ℕ

@@ -1,4 +1,4 @@
-// A walk over a record: what it is for, and how far it came. Three words by value, which a record's fields hand on in wire order.
+// A walk over a record: what it is for, and how far it came. Four words by value, which a record's fields hand on in wire order.
 use faults::Fault;
 use faults::Refusal;
 use wire::measure::Measure;
@@ -27,6 +27,7 @@ pub struct Walk {
     pub mode: usize,
     pub at: usize,
     pub value: u64,
+    pub had: usize,
 }
 
 // The record is judged; the next field stands at the place `at`.
@@ -37,6 +38,7 @@ pub fn judging(at: usize) -> Walk
         mode: JUDGE,
         at: at,
         value: 0,
+        had: 0,
     }
 }
 
@@ -48,6 +50,7 @@ pub fn putting(at: usize) -> Walk
         mode: PUT,
         at: at,
         value: 0,
+        had: 0,
     }
 }
 
@@ -59,6 +62,7 @@ pub fn seeking(index: usize) -> Walk
         mode: SEEK,
         at: index,
         value: 0,
+        had: 0,
     }
 }
 
@@ -70,6 +74,7 @@ pub fn lining(at: usize, end: usize) -> Walk
         mode: LINES,
         at: at,
         value: end as u64,
+        had: 0,
     }
 }
 
@@ -81,6 +86,7 @@ pub fn list_seeking() -> Walk
         mode: LIST,
         at: 0,
         value: 0,
+        had: 0,
     }
 }
 
@@ -92,6 +98,7 @@ pub fn finding(span: Span) -> Walk
         mode: FOUND,
         at: span.start(),
         value: span.len() as u64,
+        had: 0,
     }
 }
 
@@ -103,6 +110,7 @@ pub fn refusing(f: Refusal) -> Walk
         mode: FOUND + fault.number() as usize,
         at: f.place,
         value: f.value,
+        had: f.had,
     }
 }
 
@@ -159,6 +167,7 @@ impl Walk {
             fault: fault_of(self.mode - FOUND),
             place: self.at,
             value: self.value,
+            had: self.had,
         })
     }
 }

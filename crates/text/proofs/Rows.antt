@@ -1,15 +1,22 @@
 -- Texts in a row: the room that is left behind each, and the lines that they make. Assumes nothing.
 use Prim.Native.Nat.{ℕ, _+_, _*_, _≤_}
 use native.Mathlib.Omega.{arith}
-use mathlib.Core.Path.{_≡_, sym, ap, _∙_, subst}
-use mathlib.Core.List.{List, _++_, append-assoc}
+use mathlib.Core.Path.{_≡_, refl, sym, ap, _∙_, subst}
+use mathlib.Core.Bool.{Bool, true, false, cond}
+use mathlib.Core.List.{List, [], _++_, append-assoc}
 use lib.ListN.{length, length-append}
+use lib.Dec.{eqb}
+use borrow.Author.Tests.{ne-eqb}
+use Rattle.faults.specs.declared.Fault.{Fault}
+use Rattle.faults.specs.declared.Fault.the-variants.{Short, UnknownCode, NoArm, TooLong, TooManyItems, BadValue, Mismatch, BadSpan, NoRoom, NoField, Trailing, BadKind, Oversize}
+use Rattle.faults.specs.declared.Refusal.{Refusal}
+use Rattle.faults.specs.Faults.{paper}
 use Rattle.text.specs.declared.line.Word.{Word}
 use Rattle.wire.specs.Lines.{theBytes, line}
 use Rattle.text.specs.Puts.{Puts}
 use Rattle.text.proofs.Putting.{puts-then, puts-length}
 use Rattle.text.specs.Ascii.{ascii}
-use Rattle.text.specs.Text.{decimal, hex, sayWord, wordText, sayText, lineText, readText, refusedText}
+use Rattle.text.specs.Text.{decimal, hex, sayWord, wordText, sayText, lineText, readText, hadText, refusedText}
 use Rattle.text.proofs.Decimals.{decimal-length}
 use Rattle.text.proofs.Hexes.{hex-length}
 
@@ -125,6 +132,28 @@ module _ (place size : ℕ) (xs : List ℕ) where
 
 -- ---- words with numbers behind them
 
+-- only Short, the fault with the number 1, says what it had
+had-text : (t : Fault) (n : ℕ) → hadText t n ≡ cond (eqb (paper t .number) 1) (ascii " had " ++ decimal n) []
+had-text Short n = refl
+had-text UnknownCode n = refl
+had-text NoArm n = refl
+had-text TooLong n = refl
+had-text TooManyItems n = refl
+had-text BadValue n = refl
+had-text Mismatch n = refl
+had-text BadSpan n = refl
+had-text NoRoom n = refl
+had-text NoField n = refl
+had-text Trailing n = refl
+had-text BadKind n = refl
+had-text Oversize n = refl
+
+pub had-said : (t : Fault) (n : ℕ) {m : ℕ} → m ≡ paper t .number → m ≡ 1 → ascii " had " ++ decimal n ≡ hadText t n
+had-said t n number short = rw (had-text t n, ← number, short) refl
+
+pub had-unsaid : (t : Fault) (n : ℕ) {m : ℕ} → m ≡ paper t .number → (m ≡ 1 → ⊥) → [] ≡ hadText t n
+had-unsaid t n {m} number other = rw (had-text t n, ← number, ne-eqb m 1 other) refl
+
 pub said-length : (w : List ℕ) (n k : ℕ) → length w ≤ k → length (w ++ decimal n) ≤ k + 20
 said-length w n k h = omega (arith, length-append w (decimal n), decimal-length n)
 
@@ -138,13 +167,68 @@ read-text-length k e t =
     (said-behind (ascii " tail ") t _ 6 1 (omega arith)
     (omega arith)))
 
-pub refused-text-length : (k n p v : ℕ) → length (refusedText k n p v) ≤ 106
-refused-text-length k n p v =
-    said-behind (ascii "kind ") k _ 5 81 (omega arith)
-    (said-behind (ascii " refused ") n _ 9 52 (omega arith)
-    (said-behind (ascii " at ") p _ 4 28 (omega arith)
-    (said-behind (ascii " value ") v _ 7 1 (omega arith)
-    (omega arith))))
+pub had-text-length : (t : Fault) (n : ℕ) → length (hadText t n) ≤ 25
+had-text-length t n = by (eqb (paper t .number) 1) (had-text t n)
+  where
+    by : (b : Bool) → hadText t n ≡ cond b (ascii " had " ++ decimal n) [] → length (hadText t n) ≤ 25
+    by true e = rw e (said-length (ascii " had ") n 5 (omega arith))
+    by false e = rw e (omega arith)
+
+pub refused-text-length : (k : ℕ) (f : Refusal) → length (refusedText k f) ≤ 131
+refused-text-length k f =
+    said-behind (ascii "kind ") k _ 5 106 (omega arith)
+    (said-behind (ascii " refused ") _ _ 9 77 (omega arith)
+    (said-behind (ascii " at ") (f .place) _ 4 53 (omega arith)
+    (said-behind (ascii " value ") (f .value) _ 7 26 (omega arith)
+    (omega (arith, length-append (hadText (f .fault) (f .had)) (ascii "\n"), had-text-length (f .fault) (f .had))))))
 
 pub said : (w d : List ℕ) {rest all : List ℕ} → rest ≡ all → (w ++ d) ++ rest ≡ w ++ (d ++ all)
 said w d {rest} e = append-assoc w d rest ∙ ap (λ x. w ++ (d ++ x)) e
+
+-- ---- the line of a refusal in six parts, where there is room for the longest
+
+module _ (k : ℕ) (f : Refusal) {at : ℕ} {old : List ℕ} (room : at + 131 ≤ length old) {a : ℕ} {first : List ℕ} (p : Puts at (ascii "kind " ++ decimal k) old a first) where
+  kind-length : length (ascii "kind " ++ decimal k) ≤ 25
+  kind-length = said-length (ascii "kind ") k 5 (omega arith)
+
+  pub behind-kind : a + 106 ≤ length first
+  behind-kind = puts-left 25 p kind-length 106 room
+
+  module _ (n : ℕ) {b : ℕ} {second : List ℕ} (q : Puts a (ascii " refused " ++ decimal n) first b second) where
+    number-length : length (ascii " refused " ++ decimal n) ≤ 29
+    number-length = said-length (ascii " refused ") n 9 (omega arith)
+
+    pub behind-number : b + 77 ≤ length second
+    behind-number = puts-left 29 q number-length 77 behind-kind
+
+    module _ {c : ℕ} {third : List ℕ} (r : Puts b (ascii " at " ++ decimal (f .place)) second c third) where
+      place-length : length (ascii " at " ++ decimal (f .place)) ≤ 24
+      place-length = said-length (ascii " at ") (f .place) 4 (omega arith)
+
+      pub behind-place : c + 53 ≤ length third
+      behind-place = puts-left 24 r place-length 53 behind-number
+
+      module _ {d : ℕ} {fourth : List ℕ} (s : Puts c (ascii " value " ++ decimal (f .value)) third d fourth) where
+        value-length : length (ascii " value " ++ decimal (f .value)) ≤ 27
+        value-length = said-length (ascii " value ") (f .value) 7 (omega arith)
+
+        pub behind-value : d + 26 ≤ length fourth
+        behind-value = puts-left 27 s value-length 26 behind-place
+
+        module _ {e : ℕ} {fifth : List ℕ} (t : Puts d (hadText (f .fault) (f .had)) fourth e fifth) where
+          pub behind-had : e + 1 ≤ length fifth
+          behind-had = puts-left 25 t (had-text-length (f .fault) (f .had)) 1 behind-value
+
+          pub refusal-line-puts : {z : ℕ} {last : List ℕ} → n ≡ paper (f .fault) .number → Puts e (ascii "\n") fifth z last → Puts at (refusedText k f) old z last
+          refusal-line-puts number u =
+              puts-same
+              (said (ascii "kind ") (decimal k)
+              (said (ascii " refused ") (decimal n)
+              (said (ascii " at ") (decimal (f .place))
+              (said (ascii " value ") (decimal (f .value)) refl)))
+              ∙ ap (λ m. ascii "kind " ++ (decimal k ++ (ascii " refused " ++ (decimal m ++ (ascii " at " ++ (decimal (f .place) ++ (ascii " value " ++ (decimal (f .value) ++ (hadText (f .fault) (f .had) ++ ascii "\n"))))))))) number)
+              (puts-both 25 p kind-length (omega arith)
+              (puts-both 29 q number-length (omega (arith, behind-kind))
+              (puts-both 24 r place-length (omega (arith, behind-number))
+              (puts-both 27 s value-length (omega (arith, behind-place))
+              (puts-both 25 t (had-text-length (f .fault) (f .had)) (omega (arith, behind-value)) u)))))

@@ -4,6 +4,10 @@ use mathlib.Core.Bool.{cond}
 use mathlib.Core.List.{List, [], _∷_, _++_}
 use lib.Dec.{ltb}
 use Rattle.io.specs.Digits.{glyph}
+use Rattle.faults.specs.declared.Fault.{Fault}
+use Rattle.faults.specs.declared.Fault.the-variants.{Short, UnknownCode, NoArm, TooLong, TooManyItems, BadValue, Mismatch, BadSpan, NoRoom, NoField, Trailing, BadKind, Oversize}
+use Rattle.faults.specs.declared.Refusal.{Refusal}
+use Rattle.faults.specs.Faults.{paper}
 use Rattle.wire.specs.Lines.{Says, aCode, aNumber, theBytes, Line}
 use Rattle.text.specs.declared.line.Word.{Word}
 use Rattle.text.specs.Ascii.{ascii}
@@ -54,6 +58,24 @@ linesText (l ∷ ls) = lineText l ++ linesText ls
 abbrev pub readText : (kind end tail : ℕ) → List ℕ
 readText k e t = ascii "kind " ++ (decimal k ++ (ascii " read " ++ (decimal e ++ (ascii " tail " ++ (decimal t ++ ascii "\n")))))
 
--- the one line of a refusal
-abbrev pub refusedText : (kind number place value : ℕ) → List ℕ
-refusedText k n p v = ascii "kind " ++ (decimal k ++ (ascii " refused " ++ (decimal n ++ (ascii " at " ++ (decimal p ++ (ascii " value " ++ (decimal v ++ ascii "\n")))))))
+-- behind the value of a refusal: of Short how many bytes it had, 0 too; of any other nothing
+abbrev pub hadText : Fault → (had : ℕ) → List ℕ
+hadText Short n = ascii " had " ++ decimal n
+hadText UnknownCode n = []
+hadText NoArm n = []
+hadText TooLong n = []
+hadText TooManyItems n = []
+hadText BadValue n = []
+hadText Mismatch n = []
+hadText BadSpan n = []
+hadText NoRoom n = []
+hadText NoField n = []
+hadText Trailing n = []
+hadText BadKind n = []
+hadText Oversize n = []
+
+-- the one line of a refusal: the fault's number, its place, its value, and what it had
+abbrev pub refusedText : (kind : ℕ) → Refusal → List ℕ
+refusedText k f =
+    ascii "kind " ++ (decimal k ++ (ascii " refused " ++ (decimal (paper (f .fault) .number) ++ (ascii " at " ++ (decimal (f .place)
+    ++ (ascii " value " ++ (decimal (f .value) ++ (hadText (f .fault) (f .had) ++ ascii "\n"))))))))

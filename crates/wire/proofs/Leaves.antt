@@ -15,6 +15,7 @@ use Rattle.wire.specs.Layout.{Rule, free, lengthTo, countTo, allows, bre
 use Rattle.wire.specs.Records.{num, span, Ans, found, refused, Parsed, parsed, next, left}
 use Rattle.wire.specs.Reading.{also, Reader, piece, field, walk, list, read}
 use Rattle.wire.proofs.Steps.{found-refused, parsed-same, when-found}
+use Rattle.wire.proofs.Refused.{piece-short}
 
 -- ---- what takes no bytes
 
@@ -29,10 +30,6 @@ module _ (n : ℕ) (src : List ℕ) (at : ℕ) where
   unfolding piece
   piece-there h = rw (le-leb n (left src at) h)
 
-  piece-short : left src at < n → piece n src at ≡ refused (short at n)
-  unfolding piece
-  piece-short h = rw (lt-leb n (left src at) h)
-
   piece-fits : {xs : List ℕ} → piece n src at ≡ found xs → n ≤ left src at
   unfolding piece
   piece-fits p = leb-true n (left src at) (when-found (leb n (left src at)) _ _ p .0)
@@ -41,17 +38,17 @@ module _ (n : ℕ) (src : List ℕ) (at : ℕ) where
   unfolding read field
   one-there h e = rw (piece-there h, e)
 
-  pub one-short : left src at < n → refused (short at n) ≡ read (one n free) src at
+  pub one-short : left src at < n → refused (short at n (left src at)) ≡ read (one n free) src at
   unfolding read field
-  one-short h = rw (piece-short h)
+  one-short h = rw (piece-short n src at h)
 
   pub plain-there : n ≤ left src at → parsed (span at n ∷ []) (at + n) ≡ read (plain n stop) src at
   unfolding read
   plain-there h = rw (piece-there h)
 
-  pub plain-short : left src at < n → refused (short at n) ≡ read (plain n stop) src at
+  pub plain-short : left src at < n → refused (short at n (left src at)) ≡ read (plain n stop) src at
   unfolding read
-  plain-short h = rw (piece-short h)
+  plain-short h = rw (piece-short n src at h)
 
 -- ---- a number, judged by a rule
 

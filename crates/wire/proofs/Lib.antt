@@ -9,6 +9,7 @@ pub mod Stable
 pub mod Rules
 pub mod Refused
 pub mod WholeExactly
+pub mod Had
 pub mod Written
 pub mod Unwritten
 pub mod Then

@@ -181,7 +181,7 @@ not-ours-is-refused-whole {l} {src = src} {at} x d s foreign = let (f, g, p) = n
 
 -- a record that is all ours and is cut is Short: xs stands at the end of the input, and the record goes on
 pub cut-ours-is-short : {l l′ : Layout} {ts : List Token} (before xs : List ℕ) (y : ℕ) (ys : List ℕ) → Bytes before → (x : Later l l′) (d : Spells l′ ts (xs ++ (y ∷ ys))) → Ours x d
-    → IsShort (read l (before ++ xs) (length before))
+    → IsShort (before ++ xs) (read l (before ++ xs) (length before))
 cut-ours-is-short before xs y ys b x d o = cut-short before xs y ys b (ours-kept x d o .0)
 
 -- any that is cut is refused: with Short, or at a code or arm that is not ours
@@ -196,8 +196,8 @@ later-cut {l} before xs y ys b x d = by (ours-or-not x d) (read-stable l cut (y 
     newer (new-code p h k) = inl p
     newer (new-arm p h k) = inr p
 
-    by : Ours x d ⊎ (Ours x d → ⊥) → Stays (read l cut (length before)) (read l (cut ++ (y ∷ ys)) (length before))
+    by : Ours x d ⊎ (Ours x d → ⊥) → Stays cut (read l cut (length before)) (read l (cut ++ (y ∷ ys)) (length before))
         → (f : Refusal) × (read l cut (length before) ≡ refused f) × ((f .fault ≡ Short) ⊎ Newer f)
-    by v (inl (place, needed, p)) = (short place needed, p, inl refl)
-    by (inl o) (inr e) = let (place, needed, p) = cut-ours-is-short before xs y ys b x d o in (short place needed, p, inl refl)
+    by v (inl (place, needed, p)) = (short place needed (left cut place), p, inl refl)
+    by (inl o) (inr e) = let (place, needed, p) = cut-ours-is-short before xs y ys b x d o in (short place needed (left cut place), p, inl refl)
     by (inr foreign) (inr e) = let (f, g, p) = not-ours-is-refused x d (cut-stands before xs y ys) foreign in (f, sym e ∙ p, inr (newer (g .newer)))

@@ -24,14 +24,14 @@ use Rattle.wire.proofs.Sound.{Listed, read-sound, list-sound}
 
 -- ---- what is to be refused is refused so
 
-pub piece-short : (n : ℕ) (src : List ℕ) (at : ℕ) → left src at < n → piece n src at ≡ refused (short at n)
+pub piece-short : (n : ℕ) (src : List ℕ) (at : ℕ) → left src at < n → piece n src at ≡ refused (short at n (left src at))
 unfolding piece
 piece-short n src at h = rw (lt-leb n (left src at) h)
 
 pub field-there : {src : List ℕ} {w at n : ℕ} {r : Rule} → Field src w r at n → field w r src at ≡ found n
 field-there {w = w} {n = n} {r = r} x = field-of w r n (x .fits) (x .allowed) (x .stands)
 
-field-short : (w : ℕ) (r : Rule) (src : List ℕ) (at : ℕ) → left src at < w → field w r src at ≡ refused (short at w)
+field-short : (w : ℕ) (r : Rule) (src : List ℕ) (at : ℕ) → left src at < w → field w r src at ≡ refused (short at w (left src at))
 unfolding field
 field-short w r src at h = rw (piece-short w src at h)
 
@@ -67,7 +67,7 @@ pub next-refused : {A B : Type 0} (a : Ans A) (k : A → Ans B) {f : Refusal} �
 next-refused (found x) k p = inr (x, refl, p)
 next-refused (refused g) k p = inl (ap refused (refused-same p))
 
-also-refused : (p : Part) (a : Ans Parsed) {f : Refusal} → also p a ≡ refused f → a ≡ refused f
+pub also-refused : (p : Part) (a : Ans Parsed) {f : Refusal} → also p a ≡ refused f → a ≡ refused f
 also-refused p (found r) e = absurd (found-refused (sym e))
 also-refused p (refused g) e = e
 
@@ -75,7 +75,7 @@ pub when-refused : {A : Type 0} (b : Bool) (x : A) (g : Refusal) {f : Refusal} �
 when-refused true x g p = absurd (found-refused (sym p))
 when-refused false x g p = (refl, sym (refused-same p))
 
-piece-refused : (n : ℕ) (src : List ℕ) (at : ℕ) {f : Refusal} → piece n src at ≡ refused f → (left src at < n) × (f ≡ short at n)
+pub piece-refused : (n : ℕ) (src : List ℕ) (at : ℕ) {f : Refusal} → piece n src at ≡ refused f → (left src at < n) × (f ≡ short at n (left src at))
 unfolding piece
 piece-refused n src at p =
     let (t, e) = when-refused (leb n (left src at)) _ _ p in

@@ -20,28 +20,28 @@ use Rattle.wire.proofs.Steps.{found-refused, refused-same, piece-of}
 use Rattle.wire.proofs.Complete.{read-complete, spells-bytes}
 use Rattle.wire.proofs.Sound.{read-sound}
 
--- b, the answer to more bytes than a had, is a again, unless a is Short
-abbrev pub Stays : {A : Type 0} → Ans A → Ans A → Type 0
-Stays a b = IsShort a ⊎ (b ≡ a)
+-- b, the answer to more bytes than src, is a again, that to src, unless a is Short
+abbrev pub Stays : {A : Type 0} → (src : List ℕ) → Ans A → Ans A → Type 0
+Stays src a b = IsShort src a ⊎ (b ≡ a)
 
 -- a reader whose answers stay
 abbrev pub Stable : {A : Type 0} → Reader A → Type 0
-Stable rd = (src more : List ℕ) (at : ℕ) → Stays (rd src at) (rd (src ++ more) at)
+Stable rd = (src more : List ℕ) (at : ℕ) → Stays src (rd src at) (rd (src ++ more) at)
 
-next-stays : {A B : Type 0} (a a′ : Ans A) (k k′ : A → Ans B) → Stays a a′ → ((x : A) → Stays (k x) (k′ x)) → Stays (next a k) (next a′ k′)
-next-stays (found x) a′ k k′ (inl q) h = absurd (found-refused (sym (q .2)))
-next-stays (found x) a′ k k′ (inr e) h = rw e (h x)
-next-stays (refused f) a′ k k′ (inl q) h = inl (q .0, q .1, cc)
-next-stays (refused f) a′ k k′ (inr e) h = rw e (inr refl)
+next-stays : {A B : Type 0} (src : List ℕ) (a a′ : Ans A) (k k′ : A → Ans B) → Stays src a a′ → ((x : A) → Stays src (k x) (k′ x)) → Stays src (next a k) (next a′ k′)
+next-stays src (found x) a′ k k′ (inl q) h = absurd (found-refused (sym (q .2)))
+next-stays src (found x) a′ k k′ (inr e) h = rw e (h x)
+next-stays src (refused f) a′ k k′ (inl q) h = inl (q .0, q .1, cc)
+next-stays src (refused f) a′ k k′ (inr e) h = rw e (inr refl)
 
-also-stays : (p : Part) (a a′ : Ans Parsed) → Stays a a′ → Stays (also p a) (also p a′)
-also-stays p a a′ h = next-stays a a′ _ _ h (λ r. inr refl)
+also-stays : (src : List ℕ) (p : Part) (a a′ : Ans Parsed) → Stays src a a′ → Stays src (also p a) (also p a′)
+also-stays src p a a′ h = next-stays src a a′ _ _ h (λ r. inr refl)
 
 piece-stable : (n : ℕ) → Stable (piece n)
 unfolding piece
 piece-stable n src more at = go (leb n (left src at)) refl
   where
-    go : (t : Bool) → leb n (left src at) ≡ t → Stays (piece n src at) (piece n (src ++ more) at)
+    go : (t : Bool) → leb n (left src at) ≡ t → Stays src (piece n src at) (piece n (src ++ more) at)
     go true e =
         let h = leb-true n (left src at) e in
         let (size, s) = stands-of src at n (take n (drop at src)) h refl in
@@ -50,16 +50,16 @@ piece-stable n src more at = go (leb n (left src at)) refl
 
 field-stable : (w : ℕ) (r : Rule) → Stable (field w r)
 unfolding field
-field-stable w r src more at = next-stays (piece w src at) (piece w (src ++ more) at) _ _ (piece-stable w src more at) (λ xs. inr refl)
+field-stable w r src more at = next-stays src (piece w src at) (piece w (src ++ more) at) _ _ (piece-stable w src more at) (λ xs. inr refl)
 
 walk-stable : (item : Reader Parsed) → Stable item → (n : ℕ) → Stable (walk item n)
 walk-stable item stable zero src more at = inr refl
-walk-stable item stable (suc n) src more at = next-stays (item src at) (item (src ++ more) at) _ _ (stable src more at) (λ r. walk-stable item stable n src more (r .stops))
+walk-stable item stable (suc n) src more at = next-stays src (item src at) (item (src ++ more) at) _ _ (stable src more at) (λ r. walk-stable item stable n src more (r .stops))
 
 list-stable : (m : ℕ) (item : Reader Parsed) → Stable item → Stable (list m item)
 unfolding list
 list-stable m item stable src more at =
-    next-stays (field 4 (countTo m) src at) (field 4 (countTo m) (src ++ more) at) _ _ (field-stable 4 (countTo m) src more at)
+    next-stays src (field 4 (countTo m) src at) (field 4 (countTo m) (src ++ more) at) _ _ (field-stable 4 (countTo m) src more at)
     (λ n. walk-stable item stable n src more (at + 4))
 
 -- more bytes behind do not change the answer of the reader, unless it is Short
@@ -67,26 +67,26 @@ pub read-stable : (l : Layout) → Stable (λ s a. read l s a)
 unfolding read
 read-stable stop src more at = inr refl
 read-stable (noArm v) src more at = inr refl
-read-stable (arm v t l) src more at = also-stays (tag t) (read l src at) (read l (src ++ more) at) (read-stable l src more at)
+read-stable (arm v t l) src more at = also-stays src (tag t) (read l src at) (read l (src ++ more) at) (read-stable l src more at)
 read-stable (number w r k) src more at =
-    next-stays (field w r src at) (field w r (src ++ more) at) _ _ (field-stable w r src more at)
-    (λ n. also-stays (num n) _ _ (read-stable (k n) src more (at + w)))
+    next-stays src (field w r src at) (field w r (src ++ more) at) _ _ (field-stable w r src more at)
+    (λ n. also-stays src (num n) _ _ (read-stable (k n) src more (at + w)))
 read-stable (plain n l) src more at =
-    next-stays (piece n src at) (piece n (src ++ more) at) _ _ (piece-stable n src more at)
-    (λ xs. also-stays (span at n) _ _ (read-stable l src more (at + n)))
+    next-stays src (piece n src at) (piece n (src ++ more) at) _ _ (piece-stable n src more at)
+    (λ xs. also-stays src (span at n) _ _ (read-stable l src more (at + n)))
 read-stable (buffer w m l) src more at =
-    next-stays (field w (lengthTo m) src at) (field w (lengthTo m) (src ++ more) at) _ _ (field-stable w (lengthTo m) src more at)
-    (λ n. next-stays (piece n src (at + w)) (piece n (src ++ more) (at + w)) _ _ (piece-stable n src more (at + w))
-    (λ xs. also-stays (span (at + w) n) _ _ (read-stable l src more (at + w + n))))
+    next-stays src (field w (lengthTo m) src at) (field w (lengthTo m) (src ++ more) at) _ _ (field-stable w (lengthTo m) src more at)
+    (λ n. next-stays src (piece n src (at + w)) (piece n (src ++ more) (at + w)) _ _ (piece-stable n src more (at + w))
+    (λ xs. also-stays src (span (at + w) n) _ _ (read-stable l src more (at + w + n))))
 read-stable (counted m i l) src more at =
-    next-stays (list m (λ s a. read i s a) src at) (list m (λ s a. read i s a) (src ++ more) at) _ _ (list-stable m (λ s a. read i s a) (read-stable i) src more at)
-    (λ e. also-stays (span at (e - at)) _ _ (read-stable l src more e))
+    next-stays src (list m (λ s a. read i s a) src at) (list m (λ s a. read i s a) (src ++ more) at) _ _ (list-stable m (λ s a. read i s a) (read-stable i) src more at)
+    (λ e. also-stays src (span at (e - at)) _ _ (read-stable l src more e))
 
 -- a record that was found stays
 pub stays-found : (l : Layout) (src more : List ℕ) (at : ℕ) {r : Parsed} → read l src at ≡ found r → read l (src ++ more) at ≡ found r
 stays-found l src more at {r} p = go (read-stable l src more at)
   where
-    go : Stays (read l src at) (read l (src ++ more) at) → read l (src ++ more) at ≡ found r
+    go : Stays src (read l src at) (read l (src ++ more) at) → read l (src ++ more) at ≡ found r
     go (inl q) = absurd (found-refused (sym (q .2) ∙ p))
     go (inr e) = e ∙ p
 
@@ -94,7 +94,7 @@ stays-found l src more at {r} p = go (read-stable l src more at)
 pub stays-refused : (l : Layout) (src more : List ℕ) (at : ℕ) {f : Refusal} → read l src at ≡ refused f → (f .fault ≡ Short → ⊥) → read l (src ++ more) at ≡ refused f
 stays-refused l src more at {f} p h = go (read-stable l src more at)
   where
-    go : Stays (read l src at) (read l (src ++ more) at) → read l (src ++ more) at ≡ refused f
+    go : Stays src (read l src at) (read l (src ++ more) at) → read l (src ++ more) at ≡ refused f
     go (inl q) = absurd (h (ap (λ f. f .fault) (refused-same (sym p ∙ q .2))))
     go (inr e) = e ∙ p
 
@@ -115,9 +115,9 @@ pub cut-stands : (before xs : List ℕ) (y : ℕ) (ys : List ℕ) → Stands ((b
 cut-stands before xs y ys = rw append-assoc (rw append-nil at (stands-behind before (xs ++ (y ∷ ys)) []))
 
 -- a record that is cut is Short: xs stands at the end of the input, and the record goes on
-pub cut-short : {l : Layout} {ts : List Token} (before xs : List ℕ) (y : ℕ) (ys : List ℕ) → Bytes before → Spells l ts (xs ++ (y ∷ ys)) → IsShort (read l (before ++ xs) (length before))
+pub cut-short : {l : Layout} {ts : List Token} (before xs : List ℕ) (y : ℕ) (ys : List ℕ) → Bytes before → Spells l ts (xs ++ (y ∷ ys)) → IsShort (before ++ xs) (read l (before ++ xs) (length before))
 cut-short {l} {ts} before xs y ys b d = go (read-stable l (before ++ xs) (y ∷ ys) (length before))
   where
-    go : Stays (read l (before ++ xs) (length before)) (read l ((before ++ xs) ++ (y ∷ ys)) (length before)) → IsShort (read l (before ++ xs) (length before))
+    go : Stays (before ++ xs) (read l (before ++ xs) (length before)) (read l ((before ++ xs) ++ (y ∷ ys)) (length before)) → IsShort (before ++ xs) (read l (before ++ xs) (length before))
     go (inl q) = q
     go (inr e) = absurd (cut-not-found l before xs y ys (cut-bytes before xs y ys b d) (sym e ∙ read-complete d (cut-stands before xs y ys)))

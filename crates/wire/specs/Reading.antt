@@ -21,7 +21,7 @@ Reader A = (src : List ℕ) → (at : ℕ) → Ans A
 
 -- the n bytes that stand there
 unfoldable pub piece : ℕ → Reader (List ℕ)
-piece n src at = cond (leb n (left src at)) (found (take n (drop at src))) (refused (short at n))
+piece n src at = cond (leb n (left src at)) (found (take n (drop at src))) (refused (short at n (left src at)))
 
 -- a number of w bytes that the rule allows
 unfoldable pub field : ℕ → Rule → Reader ℕ
@@ -70,6 +70,6 @@ readWhole l src at =
 abbrev pub endOf : Ans Parsed → Ans ℕ
 endOf a = next a (λ r. found (r .stops))
 
--- the answer is the refusal Short, at some place and with some value
-abbrev pub IsShort : {A : Type 0} → Ans A → Type 0
-IsShort a = (place : ℕ) × (value : ℕ) × (a ≡ refused (short place value))
+-- the answer to src is the refusal Short, at some place and with some value; it had the bytes that src has left there
+abbrev pub IsShort : {A : Type 0} → (src : List ℕ) → Ans A → Type 0
+IsShort src a = (place : ℕ) × (value : ℕ) × (a ≡ refused (short place value (left src place)))

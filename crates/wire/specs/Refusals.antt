@@ -4,6 +4,7 @@ use mathlib.Core.Path.{_≡_}
 use mathlib.Core.Bool.{true, false}
 use mathlib.Core.List.{List}
 use lib.ListN.{length}
+use Rattle.faults.specs.declared.Fault.the-variants.{Short}
 use Rattle.faults.specs.declared.Refusal.{Refusal}
 use Rattle.faults.specs.Faults.{short, noSuchArm, trailing}
 use Rattle.wire.specs.Bytes.{digits}
@@ -19,7 +20,7 @@ pub record Field (src : List ℕ) (w : ℕ) (r : Rule) (at n : ℕ) : Type 0 whe
 
 -- no such number stands there: fewer bytes are left than it needs, or the rule does not allow the number that stands there
 pub data NoNumber (src : List ℕ) (w : ℕ) (r : Rule) (at : ℕ) (f : Refusal) : Type 0 where
-  ends-early : left src at < w → f ≡ short at w → NoNumber src w r at f
+  ends-early : left src at < w → f ≡ short at w (left src at) → NoNumber src w r at f
   not-allowed : (n : ℕ) → n < 256 ^ w → allows r n ≡ false → Stands src at (digits w n) → f ≡ breach r at n → NoNumber src w r at f
 
 -- Refuses src l at f: from the place `at` on, src is as a record of l, field by field, up to the first that is not; f names that one.
@@ -31,14 +32,14 @@ mutual
         → NoNumber src w r at f
         → Refuses src (number w r k) at f
     no-bytes : {n at : ℕ} {l : Layout} {f : Refusal}
-        → left src at < n → f ≡ short at n
+        → left src at < n → f ≡ short at n (left src at)
         → Refuses src (plain n l) at f
     no-length : {w m at : ℕ} {l : Layout} {f : Refusal}
         → NoNumber src w (lengthTo m) at f
         → Refuses src (buffer w m l) at f
     no-body : {w m at : ℕ} {l : Layout} {f : Refusal} (n : ℕ)
         → Field src w (lengthTo m) at n
-        → left src (at + w) < n → f ≡ short (at + w) n
+        → left src (at + w) < n → f ≡ short (at + w) n (left src (at + w))
         → Refuses src (buffer w m l) at f
     no-count : {m at : ℕ} {i l : Layout} {f : Refusal}
         → NoNumber src 4 (countTo m) at f
@@ -73,3 +74,13 @@ mutual
 pub data RefusesWhole (src : List ℕ) (l : Layout) (at : ℕ) (f : Refusal) : Type 0 where
   first-fault : Refuses src l at f → RefusesWhole src l at f
   left-over : (e : ℕ) → Starts l src at e → e < length src → f ≡ trailing e (left src e) → RefusesWhole src l at f
+
+-- HadFew f: Short had fewer bytes than it needs, and any other refusal had none
+pub record HadFew (f : Refusal) : Type 0 where
+  pub too-few : f .fault ≡ Short → f .had < f .value
+  pub none : (f .fault ≡ Short → ⊥) → f .had ≡ 0
+
+-- Had src f: what the refusal f of src says of the bytes that were there. Short had all that are left at its place, and they are too few
+pub record Had (src : List ℕ) (f : Refusal) : Type 0 where
+  pub all-left : f .fault ≡ Short → f .had ≡ left src (f .place)
+  pub few : HadFew f

@@ -6,7 +6,7 @@ use mathlib.Core.Bool.{_&&_, cond}
 use lib.ListN.{length, take, drop}
 use lib.Dec.{leb, ltb, eqb}
 use Rattle.faults.specs.declared.Refusal.{Refusal}
-use Rattle.faults.specs.Faults.{refusal, noSuchArm, mismatch, badSpan, trailing}
+use Rattle.faults.specs.Faults.{placedAt, noSuchArm, mismatch, badSpan, trailing}
 use Rattle.wire.specs.Bytes.{digits}
 use Rattle.wire.specs.Layout.{Rule, allows, breach, lengthTo, Layout, stop, noArm, arm, number, plain, buffer, counted}
 use Rattle.wire.specs.Records.{Part, Ans, found, refused, next}
@@ -33,7 +33,7 @@ whole m i xs =
 
 -- a refusal whose place is counted from further back
 abbrev pub further : ℕ → Refusal → Refusal
-further at f = refusal (f .fault) (at + f .place) (f .value)
+further at f = placedAt (at + f .place) f
 
 abbrev pub moved : {A : Type 0} → ℕ → Ans A → Ans A
 moved at (found a) = found a

@@ -48,22 +48,24 @@ pub fn number(s: &[u8], at: usize, w: Width) -> NumberRead
     ensures { λ r. ⌜ numberAnswer r ≡ read (one (widthOf w) free) (now (s .entry)) at ⌝ }
 {
     let n = w.bytes();
-    if n <= left(s.len(), at) {
+    let there = left(s.len(), at);
+    if n <= there {
         let end = at + n;
         return NumberRead::Found(big_endian(s, at, n), end);
     }
-    NumberRead::No(Refusal::short(at, n))
+    NumberRead::No(Refusal::short(at, n, there))
 }
 
 // n bytes as they stand, and the place behind them.
 pub fn plain(s: &[u8], at: usize, n: usize) -> SpanRead
     ensures { λ r. ⌜ spanAnswer r ≡ read (plain n stop) (now (s .entry)) at ⌝ }
 {
-    if n <= left(s.len(), at) {
+    let there = left(s.len(), at);
+    if n <= there {
         let end = at + n;
         return SpanRead::Found(Span::new(at, n), end);
     }
-    SpanRead::No(Refusal::short(at, n))
+    SpanRead::No(Refusal::short(at, n, there))
 }
 
 // A length of a width, at most `limit`, that many bytes, and the place behind them.

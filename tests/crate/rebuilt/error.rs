@@ -28,17 +28,24 @@ pub enum TpmError {
     TrailingData { offset: usize, actual: usize },
     UnexpectedEnd { offset: usize, needed: usize, available: usize },
     VariantNotAvailable { offset: usize, value: u64 },
-    Rebuilt { fault: Fault, offset: usize, value: u64 },
+    /// `available` is for `End` alone, and 0 elsewhere.
+    Rebuilt { fault: Fault, offset: usize, value: u64, available: usize },
 }
 
 impl TpmError {
     /// A refusal of a rebuilt module. The value is the one that docs/FORMAT.md gives to such a refusal.
     #[must_use]
     pub fn rebuilt(fault: Fault, offset: usize, value: usize) -> Self {
-        Self::Rebuilt { fault, offset, value: tpm_value(value) }
+        Self::Rebuilt { fault, offset, value: tpm_value(value), available: 0 }
     }
 
-    /// Moves the offset by what stands ahead. The name is forced (tpmt.rs:85); that it adds is a guess.
+    /// A leaf that is cut. As in the text's own UnexpectedEnd, `available` is the length of the slice in which the missing bytes should stand.
+    #[must_use]
+    pub fn end(offset: usize, needed: usize, available: usize) -> Self {
+        Self::Rebuilt { fault: Fault::End, offset, value: tpm_value(needed), available }
+    }
+
+    /// Moves the offset by what stands ahead. The name is forced (tpmt.rs:85); that it adds, and moves nothing else, is a guess.
     #[must_use]
     pub fn rebase(self, base: usize) -> Self {
         let mut moved = self;

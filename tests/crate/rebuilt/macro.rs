@@ -210,7 +210,7 @@ macro_rules! tpm_enum {
             fn try_from(value: $raw) -> Result<Self, Self::Error> {
                 match value {
                     $($value => Ok(Self::$variant),)*
-                    _ => Err($crate::TpmError::Rebuilt { fault: $crate::error::Fault::Code, offset: 0, value: u64::from(value) }),
+                    _ => Err($crate::TpmError::Rebuilt { fault: $crate::error::Fault::Code, offset: 0, value: u64::from(value), available: 0 }),
                 }
             }
         }

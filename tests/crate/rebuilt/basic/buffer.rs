@@ -26,7 +26,7 @@ fn sized_bytes(buffer: &[u8], limit: usize) -> TpmResult<(&[u8], &[u8])> {
     let (size, rest) = TpmUint16::unmarshal(buffer)?;
     let size = usize::from(size.value());
     within(size, limit)?;
-    rest.split_at_checked(size).ok_or(TpmError::rebuilt(Fault::End, TpmUint16::SIZE, size))
+    rest.split_at_checked(size).ok_or(TpmError::end(TpmUint16::SIZE, size, rest.len()))
 }
 
 impl<const CAPACITY: usize> Deref for TpmBuffer<CAPACITY> {

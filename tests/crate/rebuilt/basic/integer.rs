@@ -47,7 +47,7 @@ macro_rules! tpm_uint {
         impl TpmUnmarshal for $name {
             fn unmarshal(buffer: &[u8]) -> TpmResult<(Self, &[u8])> {
                 let Some((head, tail)) = buffer.split_first_chunk() else {
-                    return Err(TpmError::rebuilt(Fault::End, 0, Self::SIZE));
+                    return Err(TpmError::end(0, Self::SIZE, buffer.len()));
                 };
                 Ok((Self(<$raw>::from_be_bytes(*head)), tail))
             }

@@ -246,7 +246,7 @@ impl TpmMarshal for TpmsAttest {
 #[cfg(types8)]
 fn judge_type(attest_type: TpmSt) -> TpmResult<()> {
     match TpmuAttest::unmarshal_tagged(attest_type, &[]) {
-        Err(TpmError::VariantNotAvailable { value, .. }) => Err(TpmError::Rebuilt { fault: Fault::Code, offset: 0, value }),
+        Err(TpmError::VariantNotAvailable { value, .. }) => Err(TpmError::Rebuilt { fault: Fault::Code, offset: 0, value, available: 0 }),
         _ => Ok(()),
     }
 }
@@ -261,7 +261,7 @@ impl TpmUnmarshal for TpmsAttest {
     fn unmarshal(buffer: &[u8]) -> TpmResult<(Self, &[u8])> {
         let (magic, buffer) = TpmUint32::unmarshal(buffer)?;
         if magic.value() != TPM_GENERATED_VALUE {
-            return Err(TpmError::Rebuilt { fault: Fault::Value, offset: 0, value: u64::from(magic.value()) });
+            return Err(TpmError::Rebuilt { fault: Fault::Value, offset: 0, value: u64::from(magic.value()), available: 0 });
         }
         let (attest_type, buffer) = TpmSt::unmarshal(buffer)?;
         judge_type(attest_type)?;
@@ -311,7 +311,7 @@ impl TpmUnmarshal for TpmsPcrSelect {
         if wanted > PCR_SELECT_MAX {
             return Err(TpmError::rebuilt(Fault::Length, 0, wanted));
         }
-        let (head, tail) = rest.split_at_checked(wanted).ok_or(TpmError::rebuilt(Fault::End, 1, wanted))?;
+        let (head, tail) = rest.split_at_checked(wanted).ok_or(TpmError::end(1, wanted, rest.len()))?;
         let mut bits = [0; PCR_SELECT_MAX];
         bits[..wanted].copy_from_slice(head);
         Ok((Self { size, bits }, tail))

@@ -12,13 +12,13 @@ put-refusal-line-requires : tie.Need-put-refusal-line-requires
 put-refusal-line-requires c κs = search room-there
 
 returns : tie.Need-returns
-returns c = fits-at-once 106 (refused-text-length _ _ _ _) (c .before .before .before .before .before .room .ensures) (c .before .before .before .before .if1 .taken) (c .before .before .put-refusal-line .ensures)
+returns c = fits-at-once 131 (refused-text-length _ (c .before .before .before .before .before .before .before .args .f)) (c .before .before .before .before .before .room .ensures) (c .before .before .before .before .if1 .taken) (c .before .before .put-refusal-line .ensures)
 
 array-share-prefix-row : tie.Need-array-share-prefix-row
-array-share-prefix-row c = made-inside 106 (c .before .put-refusal-line2 .ensures) (refused-text-length _ _ _ _) (omega arith)
+array-share-prefix-row c = made-inside 131 (c .before .put-refusal-line2 .ensures) (refused-text-length _ (c .before .before .before .before .before .before .args .f)) (omega arith)
 
 slice-aggregate-fit-text : tie.Need-slice-aggregate-fit-text
-slice-aggregate-fit-text c = sym (length-take-le _ _ (made-inside 106 (c .before .before .put-refusal-line2 .ensures) (refused-text-length _ _ _ _) (omega arith)))
+slice-aggregate-fit-text c = sym (length-take-le _ _ (made-inside 131 (c .before .before .put-refusal-line2 .ensures) (refused-text-length _ (c .before .before .before .before .before .before .before .args .f)) (omega arith)))
 
 returns-2 : tie.Need-returns-2
 returns-2 c = fits-same (made (c .before .before .before .before .before .before .put-refusal-line2 .ensures)) (c .before .before .fit-text .ensures)

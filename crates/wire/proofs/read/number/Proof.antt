@@ -13,7 +13,7 @@ returns : tie.Need-returns
 returns c = rw (← c .before .before .before .bytes .ensures) (one-there _ _ _ (omega arith) (c .big-endian .ensures))
 
 returns-2 : tie.Need-returns-2
-returns-2 c = rw (c .short .ensures, ← c .before .before .before .bytes .ensures) (one-short _ _ _ (omega arith))
+returns-2 c = rw (c .short .ensures, c .before .before .left .ensures, ← c .before .before .before .bytes .ensures) (one-short _ _ _ (omega arith))
 
 pub number-spec : {M : Type 1} → statement M
 number-spec = tie.close (tie.spec (search needs) (search needs) (search needs) big-endian-requires returns (search needs) returns-2)
