@@ -104,6 +104,11 @@ module _ (w : Walk) where
       by (suc (suc (suc (suc zero)))) h o q e = absurd (q refl)
       by (suc (suc (suc (suc (suc j))))) h o q e = let same : n ≡ j = omega arith in ap (λ x. refused (refusal x (w .at) (w .value) (w .had))) (p ∙ ap faultOf same)
 
+  -- the refusal that is answered has the three numbers that were kept
+  pub answer-kept : {k : Fault} {place value had : ℕ} → place ≡ w .at → value ≡ w .value → had ≡ w .had → refused (refusal k (w .at) (w .value) (w .had)) ≡ walkAnswer w
+      → refused (refusal k place value had) ≡ walkAnswer w
+  answer-kept p v h told = rw (p, v, h) told
+
 -- ---- seeking
 
 pub seek-first : (i : ℕ) (t : Span) (r : Walk) → i ≡ 0 → r ≡ finding t → r ≡ seekSpan t i

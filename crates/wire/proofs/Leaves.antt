@@ -42,6 +42,10 @@ module _ (n : ℕ) (src : List ℕ) (at : ℕ) where
   unfolding read field
   one-short h = rw (piece-short n src at h)
 
+  -- by what the code says: so many bytes are needed, and so many are there
+  pub one-refused : {f : Refusal} (m there : ℕ) → f ≡ short at m there → m ≡ n → there ≡ left src at → left src at < n → refused f ≡ read (one n free) src at
+  one-refused m there told needed had few = rw (told, needed, had) (one-short few)
+
   pub plain-there : n ≤ left src at → parsed (span at n ∷ []) (at + n) ≡ read (plain n stop) src at
   unfolding read
   plain-there h = rw (piece-there h)
@@ -49,6 +53,9 @@ module _ (n : ℕ) (src : List ℕ) (at : ℕ) where
   pub plain-short : left src at < n → refused (short at n (left src at)) ≡ read (plain n stop) src at
   unfolding read
   plain-short h = rw (piece-short n src at h)
+
+  pub plain-refused : {f : Refusal} (m there : ℕ) → f ≡ short at m there → m ≡ n → there ≡ left src at → left src at < n → refused f ≡ read (plain n stop) src at
+  plain-refused m there told needed had few = rw (told, needed, had) (plain-short few)
 
 -- ---- a number, judged by a rule
 
