@@ -14,6 +14,7 @@ sys.dont_write_bytecode = True
 import answers
 import cases
 import damage
+import handmade
 import records
 import replaced
 import sweeps
@@ -191,6 +192,7 @@ def made_files():
         CRATES / 'deposits/stdin': b''.join(framed(d) for d in shelf.answers),
         CRATES / 'deposits/stdout': ''.join(shelf.answers.values()).encode(),
         CRATES / 'algorithms/stdout': algorithms_text().encode(),
+        CRATES / 'handmade/stdout': handmade.text((HERE / 'handmade.md').read_text(encoding='utf-8')).encode(),
         CRATES / 'calls/stdin': b''.join(framed(c) for c in calls.answers),
         CRATES / 'calls/stdout': ''.join(calls.answers.values()).encode(),
         README: with_counts(page, CALL_COUNTS, call_counts).encode(),

@@ -1,5 +1,5 @@
-// What is asked of a record that was made for a case: what it is written as, and a byte field and an item of it. Its spans are of src. Between
-// the two it is said what stood behind the record when it was read.
+// What is asked of a record that was made for a case: what it is written as, into just as much of the room as it measures, and a byte field
+// and an item of it. Its spans are of src. Between the two it is said what stood behind the record when it was read.
 use crate::case::Case;
 use crate::said::say_parts;
 use crate::said::say_written;
@@ -19,7 +19,10 @@ use sensitive::tpmt::TpmtSensitive;
 use signatures::tpmt::TpmtSignature;
 
 pub fn tpmt_ha_asked(case: Case, y: TpmtHa, tail: &[u8], src: &[u8], out: &mut [u8]) {
-    say_written(case, y.marshal(src, out), out);
+    let measured = y.measure(src);
+    let room = measured.lend(out.len());
+    let written = y.marshal(src, &mut out[..room]);
+    say_written(case, measured, written, out);
     say_parts(
         case,
         tail,
@@ -31,7 +34,10 @@ pub fn tpmt_ha_asked(case: Case, y: TpmtHa, tail: &[u8], src: &[u8], out: &mut [
 }
 
 pub fn tpmt_sym_def_asked(case: Case, y: TpmtSymDef, tail: &[u8], src: &[u8], out: &mut [u8]) {
-    say_written(case, y.marshal(src, out), out);
+    let measured = y.measure(src);
+    let room = measured.lend(out.len());
+    let written = y.marshal(src, &mut out[..room]);
+    say_written(case, measured, written, out);
     say_parts(
         case,
         tail,
@@ -49,7 +55,10 @@ pub fn tpmt_kdf_scheme_asked(
     src: &[u8],
     out: &mut [u8],
 ) {
-    say_written(case, y.marshal(src, out), out);
+    let measured = y.measure(src);
+    let room = measured.lend(out.len());
+    let written = y.marshal(src, &mut out[..room]);
+    say_written(case, measured, written, out);
     say_parts(
         case,
         tail,
@@ -67,7 +76,10 @@ pub fn tpmt_keyedhash_scheme_asked(
     src: &[u8],
     out: &mut [u8],
 ) {
-    say_written(case, y.marshal(src, out), out);
+    let measured = y.measure(src);
+    let room = measured.lend(out.len());
+    let written = y.marshal(src, &mut out[..room]);
+    say_written(case, measured, written, out);
     say_parts(
         case,
         tail,
@@ -85,7 +97,10 @@ pub fn tpmt_sig_scheme_asked(
     src: &[u8],
     out: &mut [u8],
 ) {
-    say_written(case, y.marshal(src, out), out);
+    let measured = y.measure(src);
+    let room = measured.lend(out.len());
+    let written = y.marshal(src, &mut out[..room]);
+    say_written(case, measured, written, out);
     say_parts(
         case,
         tail,
@@ -103,7 +118,10 @@ pub fn tpmt_rsa_scheme_asked(
     src: &[u8],
     out: &mut [u8],
 ) {
-    say_written(case, y.marshal(src, out), out);
+    let measured = y.measure(src);
+    let room = measured.lend(out.len());
+    let written = y.marshal(src, &mut out[..room]);
+    say_written(case, measured, written, out);
     say_parts(
         case,
         tail,
@@ -121,7 +139,10 @@ pub fn tpmt_ecc_scheme_asked(
     src: &[u8],
     out: &mut [u8],
 ) {
-    say_written(case, y.marshal(src, out), out);
+    let measured = y.measure(src);
+    let room = measured.lend(out.len());
+    let written = y.marshal(src, &mut out[..room]);
+    say_written(case, measured, written, out);
     say_parts(
         case,
         tail,
@@ -139,7 +160,10 @@ pub fn tpmt_rsa_decrypt_asked(
     src: &[u8],
     out: &mut [u8],
 ) {
-    say_written(case, y.marshal(src, out), out);
+    let measured = y.measure(src);
+    let room = measured.lend(out.len());
+    let written = y.marshal(src, &mut out[..room]);
+    say_written(case, measured, written, out);
     say_parts(
         case,
         tail,
@@ -157,7 +181,10 @@ pub fn tpmt_public_parms_asked(
     src: &[u8],
     out: &mut [u8],
 ) {
-    say_written(case, y.marshal(src, out), out);
+    let measured = y.measure(src);
+    let room = measured.lend(out.len());
+    let written = y.marshal(src, &mut out[..room]);
+    say_written(case, measured, written, out);
     say_parts(
         case,
         tail,
@@ -169,7 +196,10 @@ pub fn tpmt_public_parms_asked(
 }
 
 pub fn tpmt_signature_asked(case: Case, y: TpmtSignature, tail: &[u8], src: &[u8], out: &mut [u8]) {
-    say_written(case, y.marshal(src, out), out);
+    let measured = y.measure(src);
+    let room = measured.lend(out.len());
+    let written = y.marshal(src, &mut out[..room]);
+    say_written(case, measured, written, out);
     say_parts(
         case,
         tail,
@@ -181,7 +211,10 @@ pub fn tpmt_signature_asked(case: Case, y: TpmtSignature, tail: &[u8], src: &[u8
 }
 
 pub fn tpmt_public_asked(case: Case, y: TpmtPublic, tail: &[u8], src: &[u8], out: &mut [u8]) {
-    say_written(case, y.marshal(src, out), out);
+    let measured = y.measure(src);
+    let room = measured.lend(out.len());
+    let written = y.marshal(src, &mut out[..room]);
+    say_written(case, measured, written, out);
     say_parts(
         case,
         tail,
@@ -193,7 +226,10 @@ pub fn tpmt_public_asked(case: Case, y: TpmtPublic, tail: &[u8], src: &[u8], out
 }
 
 pub fn tpmt_sensitive_asked(case: Case, y: TpmtSensitive, tail: &[u8], src: &[u8], out: &mut [u8]) {
-    say_written(case, y.marshal(src, out), out);
+    let measured = y.measure(src);
+    let room = measured.lend(out.len());
+    let written = y.marshal(src, &mut out[..room]);
+    say_written(case, measured, written, out);
     say_parts(
         case,
         tail,
@@ -205,7 +241,10 @@ pub fn tpmt_sensitive_asked(case: Case, y: TpmtSensitive, tail: &[u8], src: &[u8
 }
 
 pub fn tpms_attest_asked(case: Case, y: TpmsAttest, tail: &[u8], src: &[u8], out: &mut [u8]) {
-    say_written(case, y.marshal(src, out), out);
+    let measured = y.measure(src);
+    let room = measured.lend(out.len());
+    let written = y.marshal(src, &mut out[..room]);
+    say_written(case, measured, written, out);
     say_parts(
         case,
         tail,
@@ -223,7 +262,10 @@ pub fn tpml_pcr_selection_asked(
     src: &[u8],
     out: &mut [u8],
 ) {
-    say_written(case, y.marshal(src, out), out);
+    let measured = y.measure(src);
+    let room = measured.lend(out.len());
+    let written = y.marshal(src, &mut out[..room]);
+    say_written(case, measured, written, out);
     say_parts(
         case,
         tail,

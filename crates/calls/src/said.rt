@@ -62,8 +62,28 @@ fn say_written_bytes(out: &[u8], n: usize) {
     }
 }
 
-// What a writer answered, and whether it left the rest of its output alone.
-pub fn say_written(case: Case, written: Measure, out: &[u8]) {
+fn is_same_refusal(a: Refusal, b: Refusal) -> bool {
+    let first = a.fault;
+    let second = b.fault;
+    first.number() == second.number() && a.place == b.place && a.value == b.value && a.had == b.had
+}
+
+// Whether a writer answered what was measured, or that there is no room for it.
+fn is_as_measured(measured: Measure, written: Measure) -> bool {
+    match measured {
+        Measure::Size(n) => match written {
+            Measure::Size(k) => k == n,
+            Measure::No(f) => is_same_refusal(f, Refusal::no_room(0, n)),
+        },
+        Measure::No(g) => match written {
+            Measure::Size(_) => false,
+            Measure::No(f) => is_same_refusal(f, g),
+        },
+    }
+}
+
+// What a writer answered, and whether it left the rest of its output alone and was measured so.
+pub fn say_written(case: Case, measured: Measure, written: Measure, out: &[u8]) {
     match written {
         Measure::Size(n) => say_written_bytes(out, n),
         Measure::No(f) => {
@@ -72,6 +92,9 @@ pub fn say_written(case: Case, written: Measure, out: &[u8]) {
                 io::write_all(1, b"changed\n");
             }
         }
+    }
+    if !is_as_measured(measured, written) {
+        io::write_all(1, b"measured otherwise\n");
     }
 }
 

@@ -15,6 +15,7 @@ use codes::TpmAlgIdRead;
 use faults::Refusal;
 use steps::walk::Walk;
 use steps::walk::judging;
+use steps::walk::ready;
 use steps::walk::seeking;
 use wire::measure::Measure;
 use wire::read::nothing_behind;
@@ -28,7 +29,7 @@ ghost use Rattle.wire.specs.Fields.{partOf, sizeOf, fieldOf};
 ghost use Rattle.wire.specs.Places.{StandsAt, startAt};
 ghost use Rattle.format.specs.Kinds.{tpmtHa, tpmtSymDef};
 ghost use Rattle.steps.specs.Walks.{here, Walks};
-ghost use Rattle.steps.specs.Writes.{Writes};
+ghost use Rattle.steps.specs.Writes.{Measures, Writes};
 ghost use Rattle.ciphers.specs.Answers.{tpmtHaAnswer, tpmtSymDefAnswer};
 ghost use Rattle.ciphers.specs.Parts.{tpmtHaParts, tpmtSymDefParts};
 
@@ -97,11 +98,17 @@ impl TpmtHa {
         digest.walk_tagged(self.hash_alg, w.algorithm(self.hash_alg, out), src, out)
     }
 
+    pub fn measure(self, src: &[u8]) -> Measure
+        ensures { λ r. ⌜ Measures tpmtHa (tpmtHaParts self) (now (src .entry)) r ⌝ }
+    {
+        self.walk(judging(0), src, &mut []).answer()
+    }
+
     pub fn marshal(self, src: &[u8], out: &mut [u8]) -> Measure
         ensures { λ r. ⌜ Writes tpmtHa (tpmtHaParts self) (now (src .entry)) (now (out .entry)) r (now (out .exit)) ⌝ }
     {
-        let judged = self.walk(judging(0), src, out);
-        self.walk(judged.ready(out.len()), src, out).answer()
+        let w = ready(self.measure(src), out.len());
+        self.walk(w, src, out).answer()
     }
 
     pub fn field<'a>(self, s: &'a [u8], index: usize) -> &'a [u8]
@@ -190,11 +197,17 @@ impl TpmtSymDef {
         mode.walk_tagged(self.algorithm, v, src, out)
     }
 
+    pub fn measure(self, src: &[u8]) -> Measure
+        ensures { λ r. ⌜ Measures tpmtSymDef (tpmtSymDefParts self) (now (src .entry)) r ⌝ }
+    {
+        self.walk(judging(0), src, &mut []).answer()
+    }
+
     pub fn marshal(self, src: &[u8], out: &mut [u8]) -> Measure
         ensures { λ r. ⌜ Writes tpmtSymDef (tpmtSymDefParts self) (now (src .entry)) (now (out .entry)) r (now (out .exit)) ⌝ }
     {
-        let judged = self.walk(judging(0), src, out);
-        self.walk(judged.ready(out.len()), src, out).answer()
+        let w = ready(self.measure(src), out.len());
+        self.walk(w, src, out).answer()
     }
 
     pub fn field<'a>(self, s: &'a [u8], index: usize) -> &'a [u8]

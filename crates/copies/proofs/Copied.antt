@@ -1,5 +1,5 @@
--- A record that is copied by its kind's number: from the equations of its answer and of the buffer to what they say in the grammar's
--- words. Assumes nothing.
+-- A record that is measured or copied by its kind's number: from the equations of its answer and of the buffer to what they say in the
+-- grammar's words. Assumes nothing.
 use Prim.Native.Nat.{ℕ, _≤_, _<_}
 use native.Mathlib.Nat.{zero-add}
 use native.Mathlib.Omega.{arith}
@@ -15,6 +15,7 @@ use Rattle.wire.specs.Answers.{measureAnswer}
 use Rattle.wire.specs.Bytes.{Bytes}
 use Rattle.wire.specs.Records.{Ans, found, refused, Parsed}
 use Rattle.wire.specs.Grammar.{Token, Starts}
+use Rattle.wire.specs.Fields.{sizeOf}
 use Rattle.wire.specs.Filling.{written, filled}
 use Rattle.wire.proofs.Answers.{measure-answer-once}
 use Rattle.wire.proofs.Steps.{found-refused, found-same, refused-same, next-found}
@@ -23,8 +24,8 @@ use Rattle.wire.proofs.Had.{other, other-had}
 use Rattle.format.specs.Kinds.{layoutOf, readKind}
 use Rattle.format.specs.Refused.{RefusesKind}
 use Rattle.format.proofs.Legal.{legal-is-read-by-number, read-by-number-is-legal, refusal-by-number-is-first, first-is-refusal-by-number, refused-by-number-says-what-it-had}
-use Rattle.copies.specs.Copied.{bytesRead, recordBytes, Begins, Copies}
-use Rattle.copies.proofs.Lent.{room-is-used, no-room-is-refused, size-is-of-bytes, refusal-or-no-room, lent-tells, refusal-changes-nothing}
+use Rattle.copies.specs.Copied.{bytesRead, recordBytes, Begins, MeasuresKind, Copies}
+use Rattle.copies.proofs.Lent.{room-is-used, no-room-is-refused, size-is-of-bytes, refusal-or-no-room, lent-tells, refusal-changes-nothing, size-of-bytes, size-of-refused}
 
 -- ---- the bytes of the record at the front
 
@@ -59,7 +60,40 @@ module _ (k : ℕ) (src : List ℕ) where
       by (found r) e = absurd (found-refused (sym e))
       by (refused g) e = ap refused (refused-same e)
 
--- ---- what is owed, from the two equations
+-- ---- what a measure owes, from its equation
+
+module _ (k : ℕ) (src : List ℕ) (r : Measure) (b : Bytes src) (answer : measureAnswer r ≡ sizeOf (recordBytes k src)) where
+  size-told : {s : Measure} → r ≡ s → sizeOf (recordBytes k src) ≡ measureAnswer s
+  size-told e = sym answer ∙ ap measureAnswer e
+
+  size-answers : (s : Measure) → sizeOf (recordBytes k src) ≡ measureAnswer s → r ≡ s
+  size-answers s e = measure-answer-once r s (answer ∙ e)
+
+  none-read : {f : Refusal} → r ≡ Measure.No f → readKind k src 0 ≡ refused f
+  none-read e = no-bytes-read k src (size-of-refused (recordBytes k src) (size-told e))
+
+  measured-legal : {n : ℕ} → r ≡ Measure.Size n → (ts : List Token) × (bs : List ℕ) × Begins k src ts bs × (length bs ≡ n)
+  measured-legal e =
+      let (bs, there, size) = size-of-bytes (recordBytes k src) (size-told e) in
+      let (ts, d) = bytes-are-legal k src b there in
+      (ts, bs, d, size)
+
+  first-not-measured : {f : Refusal} → RefusesKind k src 0 f → r ≡ Measure.No f
+  unfolding recordBytes
+  first-not-measured {f} d = size-answers (Measure.No f) (ap (λ a. sizeOf (bytesRead a src)) (first-is-refusal-by-number k d))
+
+  pub measures-kind : MeasuresKind k src r
+  measures-kind =
+      record {
+        answer = answer;
+        legal-is-measured = λ {ts} {bs} d. size-answers (Measure.Size (length bs)) (ap sizeOf (legal-bytes k src d));
+        measured-is-legal = measured-legal;
+        refusal-is-first = λ e. refusal-by-number-is-first k src 0 b (none-read e);
+        refusal-says-what-it-had = λ {f} e. refused-by-number-says-what-it-had k src 0 f (none-read e);
+        first-is-refusal = first-not-measured;
+      }
+
+-- ---- what a copy owes, from its two equations
 
 module _ (k : ℕ) (src old last : List ℕ) (r : Measure) (b : Bytes src) (answer : measureAnswer r ≡ written 0 (recordBytes k src) old) (buffer : last ≡ filled 0 (recordBytes k src) old) where
   told : {s : Measure} → r ≡ s → written 0 (recordBytes k src) old ≡ measureAnswer s

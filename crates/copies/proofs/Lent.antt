@@ -1,20 +1,22 @@
--- A lent buffer, written from its start: what the answer says of it, whatever was to be written. Assumes nothing.
-use Prim.Native.Nat.{ℕ, _≤_, _<_}
+-- A lent buffer, written from its start: what the answer says of it, whatever was to be written; and what the size of that says of the
+-- answer. Assumes nothing.
+use Prim.Native.Nat.{ℕ, _-_, _≤_, _<_}
 use native.Mathlib.Nat.{zero-add}
 use native.Mathlib.Omega.{arith}
 use mathlib.Core.Path.{_≡_, refl, sym, ap, _∙_}
 use mathlib.Core.Logic.{_⊎_, inl, inr}
 use mathlib.Core.Bool.{Bool, true, false}
-use mathlib.Core.List.{List, _++_}
-use lib.ListN.{length, drop, length-append, length-drop}
-use lib.Seq.{drop-at}
+use mathlib.Core.List.{List, [], _++_, append-nil}
+use lib.ListN.{length, take, drop, length-append, length-drop, take-append-drop, drop-of-length-le}
+use lib.Seq.{drop-at, length-take-le, take-length}
 use lib.Dec.{leb}
-use borrow.Author.Tests.{leb-true, leb-false}
+use borrow.Author.Tests.{le-leb, lt-leb, leb-true, leb-false}
 use Rattle.faults.specs.declared.Refusal.{Refusal}
 use Rattle.faults.specs.Faults.{noRoom}
 use Rattle.wire.specs.Records.{Ans, found, refused}
 use Rattle.wire.specs.Refusals.{HadFew}
-use Rattle.wire.specs.Filling.{written, filled}
+use Rattle.wire.specs.Fields.{sizeOf}
+use Rattle.wire.specs.Filling.{written, filled, roomed, lend}
 use Rattle.wire.proofs.Steps.{found-refused, found-same, refused-same}
 use Rattle.wire.proofs.Had.{other, other-few, Tells}
 use Rattle.wire.proofs.Filling.{fits-put, fits-not}
@@ -95,3 +97,42 @@ module _ (old : List ℕ) where
   rest-is-kept a {n} p =
       let (bs, e, size, room, held) = size-is-of-bytes a p in
       ap (λ l. drop n l) held ∙ drop-at bs (drop n old) n size
+
+-- ---- the size of what is to be written
+
+-- a size is that of bytes, and a refusal that of what was to be written
+pub size-of-bytes : (a : Ans (List ℕ)) {n : ℕ} → sizeOf a ≡ found n → (bs : List ℕ) × (a ≡ found bs) × (length bs ≡ n)
+size-of-bytes (found bs) p = (bs, refl, found-same p)
+size-of-bytes (refused f) p = absurd (found-refused p)
+
+pub size-of-refused : (a : Ans (List ℕ)) {f : Refusal} → sizeOf a ≡ refused f → a ≡ refused f
+size-of-refused (found bs) p = absurd (found-refused (sym p))
+size-of-refused (refused g) p = ap refused (refused-same p)
+
+-- what a writer answers is the size, with room for it
+pub written-is-roomed : (a : Ans (List ℕ)) (old : List ℕ) → written 0 a old ≡ roomed (length old) (sizeOf a)
+written-is-roomed (found bs) old = let all : length old - 0 ≡ length old = omega arith in rw all
+written-is-roomed (refused f) old = refl
+
+-- as many bytes lent as are needed, or all where there are fewer, are as good as all
+module _ (old : List ℕ) where
+  pub lent-is-as-good : (a : Ans (List ℕ)) {k : ℕ} → k ≡ lend (sizeOf a) (length old)
+      → (written 0 a (take k old) ≡ written 0 a old) × (filled 0 a (take k old) ++ drop k old ≡ filled 0 a old)
+  lent-is-as-good (found bs) {k} e = by-room old bs enough all
+    where
+      enough : length bs ≤ length old → (written 0 (found bs) (take k old) ≡ written 0 (found bs) old) × (filled 0 (found bs) (take k old) ++ drop k old ≡ filled 0 (found bs) old)
+      enough h =
+          let same : k ≡ length bs = e ∙ rw (le-leb (length bs) (length old) h) in
+          let just : length (take k old) ≡ length bs = length-take-le k old (omega arith) ∙ same in
+          let (size, held) = room-is-used (take k old) (found bs) refl (omega arith) in
+          let (size′, held′) = room-is-used old (found bs) refl h in
+          let none : drop (length bs) (take k old) ≡ [] = drop-of-length-le (take k old) {i = length bs} (omega arith) in
+          (size ∙ sym size′, ap (λ xs. xs ++ drop k old) (held ∙ ap (λ xs. bs ++ xs) none ∙ append-nil bs) ∙ ap (λ n. bs ++ drop n old) same ∙ sym held′)
+
+      all : length old < length bs → (written 0 (found bs) (take k old) ≡ written 0 (found bs) old) × (filled 0 (found bs) (take k old) ++ drop k old ≡ filled 0 (found bs) old)
+      all h =
+          let same : k ≡ length old = e ∙ rw (lt-leb (length bs) (length old) h) in
+          let whole : take k old ≡ old = ap (λ n. take n old) same ∙ take-length old in
+          let none : drop k old ≡ [] = drop-of-length-le old {i = k} (omega arith) in
+          (ap (λ xs. written 0 (found bs) xs) whole, ap (λ xs. xs ++ drop k old) (ap (λ xs. filled 0 (found bs) xs) whole) ∙ ap (λ xs. filled 0 (found bs) old ++ xs) none ∙ append-nil (filled 0 (found bs) old))
+  lent-is-as-good (refused f) {k} e = (refl, take-append-drop k old)

@@ -6,3 +6,4 @@ pub mod Fields
 pub mod Laid
 pub mod Rewritten
 pub mod Writers
+pub mod Measured

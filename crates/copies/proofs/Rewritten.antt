@@ -42,7 +42,7 @@ module _ (k : ℕ) where
   read-records-are-shaped src at b p = shaped-of-read (layoutOf k) src at _ b p
 
   -- it is laid out again as the bytes that it was read from
-  read-record-is-laid : (src : List ℕ) (at : ℕ) {ps : List Part} {e : ℕ} → Bytes src → read (layoutOf k) src at ≡ parsed ps e
+  pub read-record-is-laid : (src : List ℕ) (at : ℕ) {ps : List Part} {e : ℕ} → Bytes src → read (layoutOf k) src at ≡ parsed ps e
       → (lay (layoutOf k) ps src 0 ≡ found (take (e - at) (drop at src))) × (length (take (e - at) (drop at src)) ≡ e - at)
   read-record-is-laid src at {ps} {e} b p =
       let (some, inside) = read-lies-in k src at b p in

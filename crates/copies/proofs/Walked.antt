@@ -1,4 +1,5 @@
--- From what a reader answered to the walk over it, from a layout to the kind's number, and from two walks to a copy. Assumes nothing.
+-- From what a reader answered to the walk over it, from a layout to the kind's number, and from walks to a measure and a copy. Assumes
+-- nothing.
 use Prim.Native.Nat.{ℕ, _-_}
 use native.Mathlib.Omega.{arith}
 use mathlib.Core.Path.{_≡_, refl, sym, ap, _∙_, subst}
@@ -16,6 +17,7 @@ use Rattle.wire.specs.Layout.{Layout}
 use Rattle.wire.specs.Records.{Part, Ans, found, refused, next, Parsed}
 use Rattle.wire.specs.Reading.{read}
 use Rattle.wire.specs.Writing.{lay}
+use Rattle.wire.specs.Fields.{sizeOf}
 use Rattle.wire.specs.Filling.{written, filled}
 use Rattle.wire.proofs.Search.{known}
 use Rattle.wire.proofs.Steps.{found-same, refused-same, found-refused, when-found}
@@ -23,11 +25,12 @@ use Rattle.wire.proofs.Written.{read-then-lay}
 use Rattle.format.specs.Kinds.{isKind, layoutOf, readKind}
 use Rattle.steps.specs.declared.walk.Walk.{Walk}
 use Rattle.steps.specs.Walks.{Here, here, judging, refusing, Walks, readyWalk, walkAnswer}
+use Rattle.steps.specs.Writes.{Measures}
 use Rattle.steps.proofs.Search.{by-more}
-use Rattle.steps.proofs.Marshalled.{marshalled, refusing-answer}
+use Rattle.steps.proofs.Marshalled.{measured, marshalled, refusing-answer}
 use Rattle.copies.specs.Walked.{WalkOf}
-use Rattle.copies.specs.Copied.{recordBytes, Copies}
-use Rattle.copies.proofs.Copied.{copies}
+use Rattle.copies.specs.Copied.{recordBytes, MeasuresKind, Copies}
+use Rattle.copies.proofs.Copied.{measures-kind, copies}
 use Rattle.format.proofs.Numbered.{of-kind, no-kind-read}
 pub use borrow.Author.Needs.{needs}
 
@@ -71,21 +74,31 @@ read-of-kind k src p = when-found (isKind k) _ _ p .1
 pub read-bytes : (k : ℕ) (src : List ℕ) (r : Parsed) → Bytes src → readKind k src 0 ≡ found r → lay (layoutOf k) (r .parts) src 0 ≡ found (take (r .stops) src)
 read-bytes k src r b p = let all : r .stops - 0 ≡ r .stops = omega arith in read-then-lay (layoutOf k) src 0 0 r b (omega arith) (read-of-kind k src p) ∙ ap (λ n. found (take n src)) all
 
--- ---- two walks, to judge the record and to put it
+-- ---- a walk that judges the record, and one that puts it
 
-pub copied : (k : ℕ) (src old mid last : List ℕ) (u w v z : Walk) (r : Measure) → Bytes src → u ≡ judging 0 → WalkOf (layoutOf k) src (readKind k src 0) (here u old) (here w mid)
-    → v ≡ readyWalk w (length mid) → WalkOf (layoutOf k) src (readKind k src 0) (here v mid) (here z last) → measureAnswer r ≡ walkAnswer z → Copies k src old r last
+pub measured-kind : (k : ℕ) (src old mid : List ℕ) (u w : Walk) (r : Measure) → Bytes src → u ≡ judging 0 → WalkOf (layoutOf k) src (readKind k src 0) (here u old) (here w mid)
+    → measureAnswer r ≡ walkAnswer w → MeasuresKind k src r
 unfolding recordBytes
-copied k src old mid last u w v z r b begin first ready second told = by (readKind k src 0) refl
+measured-kind k src old mid u w r b begin walks told = measures-kind k src r b (by (readKind k src 0) refl)
+  where
+    by : (y : Ans Parsed) → readKind k src 0 ≡ y → measureAnswer r ≡ sizeOf (recordBytes k src)
+    by (found x) e =
+        let (ls, p, one) = walks .walked e in
+        measured 24 (layoutOf k) (x .parts) ls src old mid u w r begin p told refl .answer ∙ ap sizeOf (read-bytes k src x b e) ∙ rw e
+    by (refused f) e = told ∙ ap (λ h. walkAnswer (h .walk)) (walks .none e) ∙ refusing-answer f ∙ rw e
+
+pub copied : (k : ℕ) (src old last : List ℕ) (v z : Walk) (m r : Measure) → Bytes src → MeasuresKind k src m → v ≡ readyWalk (measureAnswer m) (length old)
+    → WalkOf (layoutOf k) src (readKind k src 0) (here v old) (here z last) → measureAnswer r ≡ walkAnswer z → Copies k src old r last
+unfolding recordBytes
+copied k src old last v z m r b size ready walks told = by (readKind k src 0) refl
   where
     by : (y : Ans Parsed) → readKind k src 0 ≡ y → Copies k src old r last
     by (found x) e =
-        let (ls, p, one) = first .walked e in
-        let (ms, q, one) = second .walked e in
-        let done = marshalled 24 (layoutOf k) (x .parts) ls ms src old mid last u w v z r begin p ready q told refl in
-        let bytes = read-bytes k src x b e in
-        copies k src old last r b (done .answer ∙ ap (λ a. written 0 a old) bytes ∙ rw e) (done .buffer ∙ ap (λ a. filled 0 a old) bytes ∙ rw e)
+        let (ls, p, one) = walks .walked e in
+        let bytes : lay (layoutOf k) (x .parts) src 0 ≡ recordBytes k src = read-bytes k src x b e ∙ rw e in
+        let measure : Measures (layoutOf k) (x .parts) src m = record { answer = size .answer ∙ ap sizeOf (sym bytes); shaped = p .plans .shaped } in
+        let done = marshalled 24 (layoutOf k) (x .parts) ls src old last v z m r measure ready p told in
+        copies k src old last r b (done .answer ∙ ap (λ a. written 0 a old) bytes) (done .buffer ∙ ap (λ a. filled 0 a old) bytes)
     by (refused f) e =
-        let p = first .none e in
-        let q = second .none e in
-        copies k src old last r b (told ∙ ap (λ h. walkAnswer (h .walk)) q ∙ refusing-answer f ∙ rw e) (ap (λ h. h .out) q ∙ ap (λ h. h .out) p ∙ rw e)
+        let q = walks .none e in
+        copies k src old last r b (told ∙ ap (λ h. walkAnswer (h .walk)) q ∙ refusing-answer f ∙ rw e) (ap (λ h. h .out) q ∙ rw e)

@@ -1,4 +1,4 @@
--- What is owed to whoever has a record copied by its kind's number. Assumes nothing.
+-- What is owed to whoever has a record measured or copied by its kind's number. Assumes nothing.
 use Prim.Native.Nat.{ℕ, _≤_, _<_}
 use mathlib.Core.Path.{_≡_}
 use mathlib.Core.Logic.{_⊎_}
@@ -12,6 +12,7 @@ use Rattle.wire.specs.Records.{Ans, found, next, Parsed}
 use Rattle.wire.specs.Refusals.{Had}
 use Rattle.wire.specs.Grammar.{Token, Spells}
 use Rattle.wire.specs.Filling.{written, filled}
+use Rattle.wire.specs.Fields.{sizeOf}
 use Rattle.format.specs.Kinds.{layoutOf, readKind}
 use Rattle.format.specs.Refused.{RefusesKind}
 
@@ -28,6 +29,18 @@ pub record Begins (k : ℕ) (src : List ℕ) (ts : List Token) (bs : List ℕ) :
   pub spells : Spells (layoutOf k) ts bs
   pub rest : List ℕ
   pub front : src ≡ bs ++ rest
+
+-- What is owed to whoever has a record measured: its size, or why not; r was answered
+pub record MeasuresKind (kind : ℕ) (src : List ℕ) (r : Measure) : Type 0 where
+  -- the record's size, or the first refusal: the input determines it
+  pub answer : measureAnswer r ≡ sizeOf (recordBytes kind src)
+  -- a legal record is measured, and a size is answered of a legal record alone
+  pub legal-is-measured : {ts : List Token} {bs : List ℕ} → Begins kind src ts bs → r ≡ Measure.Size (length bs)
+  pub measured-is-legal : {n : ℕ} → r ≡ Measure.Size n → (ts : List Token) × (bs : List ℕ) × Begins kind src ts bs × (length bs ≡ n)
+  -- a refusal says why no record of the kind stands there, and what it had; and what says why is answered
+  pub refusal-is-first : {f : Refusal} → r ≡ Measure.No f → RefusesKind kind src 0 f
+  pub refusal-says-what-it-had : {f : Refusal} → r ≡ Measure.No f → Had src f
+  pub first-is-refusal : {f : Refusal} → RefusesKind kind src 0 f → r ≡ Measure.No f
 
 -- What is owed to whoever has a record copied: its size, or why not; and all that the buffer holds afterwards. The buffer held old before
 -- and holds last now, and r was answered

@@ -30,6 +30,7 @@ use signatures::tpmt::TpmtSignature;
 use signatures::tpmt::TpmtSignatureRead;
 use steps::walk::Walk;
 use steps::walk::judging;
+use steps::walk::ready;
 use steps::walk::refusing;
 use wire::measure::Measure;
 use wire::widen::wide_byte;
@@ -37,7 +38,7 @@ ghost use Rattle.wire.specs.Reading.{read};
 ghost use Rattle.format.specs.Kinds.{tpmtHa, tpmtSymDef, tpmtKdfScheme, tpmtKeyedhashScheme, tpmtSigScheme, tpmtAsymScheme, tpmtPublicParms, tpmtSignature, tpmtPublic, tpmtSensitive, tpmsAttest, tpmlPcrSelection, layoutOf, readKind};
 ghost use Rattle.steps.specs.Walks.{here};
 ghost use Rattle.copies.specs.Walked.{WalkOf};
-ghost use Rattle.copies.specs.Copied.{Copies};
+ghost use Rattle.copies.specs.Copied.{MeasuresKind, Copies};
 
 fn tpmt_ha_walk(s: &[u8], w: Walk, out: &mut [u8]) -> Walk
     ensures { λ r. ⌜ WalkOf tpmtHa (now (s .entry)) (read tpmtHa (now (s .entry)) 0) (here w (now (out .entry))) (here r (now (out .exit))) ⌝ }
@@ -189,10 +190,17 @@ pub fn walk(kind: u8, s: &[u8], w: Walk, out: &mut [u8]) -> Walk
     }
 }
 
+// The record of that kind that s starts with, measured: how long it is, or why not.
+pub fn measure(kind: u8, s: &[u8]) -> Measure
+    ensures { λ r. ⌜ MeasuresKind kind (now (s .entry)) r ⌝ }
+{
+    walk(kind, s, judging(0), &mut []).answer()
+}
+
 // The record of that kind that s starts with, copied into out: how long it is, or why not.
 pub fn copy(kind: u8, s: &[u8], out: &mut [u8]) -> Measure
     ensures { λ r. ⌜ Copies kind (now (s .entry)) (now (out .entry)) r (now (out .exit)) ⌝ }
 {
-    let judged = walk(kind, s, judging(0), out);
-    walk(kind, s, judged.ready(out.len()), out).answer()
+    let w = ready(measure(kind, s), out.len());
+    walk(kind, s, w, out).answer()
 }

@@ -1,9 +1,10 @@
 // Lists every deposit on standard input: two bytes that say how long it is, then the deposit, and then the next. After the listing of a
 // record that was read comes the line `again`, with the bytes that it is written as: if its copy and the record written and read again have
-// one size, and read whole it has that size too or, with a tail, is Trailing there.
+// the size that it measures, and read whole it has that size too or, with a tail, is Trailing there.
 use codes::uint::Uint16Read;
 use codes::uint::uint16;
 use copies::walk::copy;
+use copies::walk::measure;
 use listing::deposit::LISTING_ROOM;
 use listing::deposit::list_deposit;
 use records::whole::whole_end;
@@ -37,6 +38,13 @@ fn write_again_line(bytes: &[u8], out: &mut [u8]) {
     io::write_all(1, &end);
 }
 
+fn is_size(answer: Measure, size: usize) -> bool {
+    match answer {
+        Measure::Size(n) => n == size,
+        Measure::No(_) => false,
+    }
+}
+
 // Whether a record of that size is read whole where it is all there is, and is Trailing where more stands after it.
 fn whole_agrees(kind: u8, bytes: &[u8], size: usize) -> bool {
     match whole_end(kind, bytes, 0) {
@@ -48,20 +56,27 @@ fn whole_agrees(kind: u8, bytes: &[u8], size: usize) -> bool {
     }
 }
 
-// The line `again`, if all the calls agree on the record's size. Its bytes are those that were written and read again.
+// The line `again`, if all the calls agree on the record's size. It is measured, and each writer is lent just as many bytes; those of the
+// line are the ones that were written and read again.
 fn write_again(kind: u8, bytes: &[u8], copied: &mut [u8], written: &mut [u8], out: &mut [u8]) {
-    let size = match copy(kind, bytes, copied) {
+    let size = match measure(kind, bytes) {
         Measure::Size(n) => n,
         Measure::No(_) => return,
     };
-    let end = match again(kind, bytes, written) {
-        Measure::Size(n) => n,
-        Measure::No(_) => return,
-    };
-    if size == end && whole_agrees(kind, bytes, size) {
-        if size <= written.len() {
-            write_again_line(&written[..size], out);
-        }
+    if size > copied.len() {
+        return;
+    }
+    if size > written.len() {
+        return;
+    }
+    if !is_size(copy(kind, bytes, &mut copied[..size]), size) {
+        return;
+    }
+    if !is_size(again(kind, bytes, &mut written[..size]), size) {
+        return;
+    }
+    if whole_agrees(kind, bytes, size) {
+        write_again_line(&written[..size], out);
     }
 }
 

@@ -11,6 +11,7 @@ use parameters::tpmu::TpmuPublicParms;
 use parameters::tpmu::TpmuPublicParmsRead;
 use steps::walk::Walk;
 use steps::walk::judging;
+use steps::walk::ready;
 use steps::walk::seeking;
 use wire::measure::Measure;
 use wire::read::SpanRead;
@@ -29,7 +30,7 @@ ghost use Rattle.wire.specs.Fields.{partOf, sizeOf, fieldOf};
 ghost use Rattle.wire.specs.Places.{StandsAt, startAt};
 ghost use Rattle.format.specs.Kinds.{tpmtPublic, tpmuPublicParms, tpmuPublicId};
 ghost use Rattle.steps.specs.Walks.{here, Walks};
-ghost use Rattle.steps.specs.Writes.{Writes};
+ghost use Rattle.steps.specs.Writes.{Measures, Writes};
 ghost use Rattle.keys.specs.Answers.{tpmtPublicAnswer};
 ghost use Rattle.keys.specs.Parts.{tpmtPublicParts};
 
@@ -158,11 +159,17 @@ impl TpmtPublic {
         unique.walk_tagged(self.object_type, u, src, out)
     }
 
+    pub fn measure(self, src: &[u8]) -> Measure
+        ensures { λ r. ⌜ Measures tpmtPublic (tpmtPublicParts self) (now (src .entry)) r ⌝ }
+    {
+        self.walk(judging(0), src, &mut []).answer()
+    }
+
     pub fn marshal(self, src: &[u8], out: &mut [u8]) -> Measure
         ensures { λ r. ⌜ Writes tpmtPublic (tpmtPublicParts self) (now (src .entry)) (now (out .entry)) r (now (out .exit)) ⌝ }
     {
-        let judged = self.walk(judging(0), src, out);
-        self.walk(judged.ready(out.len()), src, out).answer()
+        let w = ready(self.measure(src), out.len());
+        self.walk(w, src, out).answer()
     }
 
     pub fn field<'a>(self, s: &'a [u8], index: usize) -> &'a [u8]

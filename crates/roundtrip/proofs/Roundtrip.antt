@@ -18,7 +18,7 @@ use Rattle.wire.specs.Records.{Part, Ans, found, refused, next, Parsed, parsed}
 use Rattle.wire.specs.Reading.{read, endOf}
 use Rattle.wire.specs.Grammar.{Token, Spells, placed, shown}
 use Rattle.wire.specs.Writing.{lay}
-use Rattle.wire.specs.Filling.{written, filled}
+use Rattle.wire.specs.Filling.{written, filled, lend}
 use Rattle.wire.specs.Unwritten.{Shaped, Unwritten}
 use Rattle.wire.proofs.Stand.{stands-start}
 use Rattle.wire.proofs.Steps.{found-refused, found-same, refused-same, parsed-same}
@@ -28,12 +28,13 @@ use Rattle.wire.proofs.Had.{refused-write-had-few}
 use Rattle.wire.proofs.Unwritten.{lay-unwritten}
 use Rattle.format.specs.Kinds.{isKind, layoutOf, readKind}
 use Rattle.format.proofs.Numbered.{of-kind, no-kind-read}
-use Rattle.steps.specs.Writes.{Writes}
+use Rattle.steps.specs.Writes.{Measures, Writes}
 use Rattle.wire.specs.Within.{Within}
 use Rattle.copies.specs.Copied.{bytesRead, recordBytes, Begins, Copies}
 use Rattle.copies.proofs.Lent.{room-is-used, size-is-of-bytes, refusal-or-no-room, lent-had-few, refusal-changes-nothing}
 use Rattle.copies.proofs.Laid.{legal-laid}
 use Rattle.copies.proofs.Copied.{copies}
+use Rattle.copies.proofs.Measured.{lent-is-written}
 use Rattle.roundtrip.specs.Roundtrip.{ReadsBack, Rewrites, Again}
 pub use borrow.Author.Needs.{needs}
 
@@ -97,14 +98,20 @@ module _ (l : Layout) (ps : List Part) (src old last : List ℕ) (b : Bytes src)
           refusal-had-few = λ {f} p. lent-had-few old (lay l ps src 0) (refused-write-had-few l ps src 0) f (writer-refused p);
         }
 
--- ---- for `search`: a writer answered m, and then a reader of what the buffer holds
+-- ---- for `search`: m was measured, a writer answered r of the k bytes that it was lent, and then a reader of what the buffer holds
 
-module _ (l : Layout) (ps : List Part) (src old last : List ℕ) (m : Measure) where
-  pub written-back : {n : ℕ} {a : Ans Parsed} → Bytes src → Writes l ps src old m last → m ≡ Measure.Size n → a ≡ read l last 0 → ReadsBack l ps src old a last
-  written-back b w e p = reads-back l ps src old last b (w .buffer) (w .shaped) (p ∙ ap (λ x. next x (λ n. read l last 0)) (ap measureAnswer (sym e) ∙ w .answer))
+module _ (l : Layout) (ps : List Part) (src old last : List ℕ) (k : ℕ) (m r : Measure) where
+  pub written-back : {n : ℕ} {a : Ans Parsed} → Bytes src → Measures l ps src m → (k ≡ lend (measureAnswer m) (length old)) × (k ≤ length old) → Writes l ps src (take k old) r last
+      → r ≡ Measure.Size n → a ≡ read l (last ++ drop k old) 0 → ReadsBack l ps src old a (last ++ drop k old)
+  written-back b m lent w e p =
+      let all = lent-is-written m (lent .0) w in
+      reads-back l ps src old (last ++ drop k old) b (all .buffer) (all .shaped) (p ∙ ap (λ x. next x (λ n. read l (last ++ drop k old) 0)) (ap measureAnswer (sym e) ∙ all .answer))
 
-  pub not-written : {f : Refusal} → Bytes src → Writes l ps src old m last → m ≡ Measure.No f → ReadsBack l ps src old (refused f) last
-  not-written b w e = reads-back l ps src old last b (w .buffer) (w .shaped) (ap (λ x. next x (λ n. read l last 0)) (ap measureAnswer (sym e) ∙ w .answer))
+  pub not-written : {f : Refusal} → Bytes src → Measures l ps src m → (k ≡ lend (measureAnswer m) (length old)) × (k ≤ length old) → Writes l ps src (take k old) r last
+      → r ≡ Measure.No f → ReadsBack l ps src old (refused f) (last ++ drop k old)
+  not-written b m lent w e =
+      let all = lent-is-written m (lent .0) w in
+      reads-back l ps src old (last ++ drop k old) b (all .buffer) (all .shaped) (ap (λ x. next x (λ n. read l (last ++ drop k old) 0)) (ap measureAnswer (sym e) ∙ all .answer))
 
 -- ---- read, written, and read again
 

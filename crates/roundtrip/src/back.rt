@@ -1,5 +1,6 @@
-// A record written into a lent slice and read again from there, by the calls of its type: what `marshal` puts, `unmarshal` finds, with equal
-// fields and shown bytes. Where it may not be written, or there is no room for it, that is answered and the slice is as it was.
+// A record written into a lent slice and read again from there, by the calls of its type: it is measured, `marshal` is lent just as many
+// bytes, and what it puts, `unmarshal` finds, with equal fields and shown bytes. Where it may not be written, or there is no room for it,
+// that is answered and the slice is as it was.
 use attest::attestation::TpmsAttest;
 use attest::attestation::TpmsAttestRead;
 use attest::list::TpmlPcrSelection;
@@ -49,7 +50,8 @@ ghost use Rattle.roundtrip.specs.Roundtrip.{ReadsBack};
 pub fn tpmt_ha_back(x: TpmtHa, src: &[u8], out: &mut [u8]) -> TpmtHaRead
     ensures { λ r. ⌜ ReadsBack tpmtHa (tpmtHaParts x) (now (src .entry)) (now (out .entry)) (tpmtHaAnswer r) (now (out .exit)) ⌝ }
 {
-    match x.marshal(src, out) {
+    let room = x.measure(src).lend(out.len());
+    match x.marshal(src, &mut out[..room]) {
         Measure::Size(_) => TpmtHa::unmarshal(out, 0),
         Measure::No(f) => TpmtHaRead::No(f),
     }
@@ -58,7 +60,8 @@ pub fn tpmt_ha_back(x: TpmtHa, src: &[u8], out: &mut [u8]) -> TpmtHaRead
 pub fn tpmt_sym_def_back(x: TpmtSymDef, src: &[u8], out: &mut [u8]) -> TpmtSymDefRead
     ensures { λ r. ⌜ ReadsBack tpmtSymDef (tpmtSymDefParts x) (now (src .entry)) (now (out .entry)) (tpmtSymDefAnswer r) (now (out .exit)) ⌝ }
 {
-    match x.marshal(src, out) {
+    let room = x.measure(src).lend(out.len());
+    match x.marshal(src, &mut out[..room]) {
         Measure::Size(_) => TpmtSymDef::unmarshal(out, 0),
         Measure::No(f) => TpmtSymDefRead::No(f),
     }
@@ -67,7 +70,8 @@ pub fn tpmt_sym_def_back(x: TpmtSymDef, src: &[u8], out: &mut [u8]) -> TpmtSymDe
 pub fn tpmt_kdf_scheme_back(x: TpmtKdfScheme, src: &[u8], out: &mut [u8]) -> TpmtKdfSchemeRead
     ensures { λ r. ⌜ ReadsBack tpmtKdfScheme (tpmtKdfSchemeParts x) (now (src .entry)) (now (out .entry)) (tpmtKdfSchemeAnswer r) (now (out .exit)) ⌝ }
 {
-    match x.marshal(src, out) {
+    let room = x.measure(src).lend(out.len());
+    match x.marshal(src, &mut out[..room]) {
         Measure::Size(_) => TpmtKdfScheme::unmarshal(out, 0),
         Measure::No(f) => TpmtKdfSchemeRead::No(f),
     }
@@ -80,7 +84,8 @@ pub fn tpmt_keyedhash_scheme_back(
 ) -> TpmtKeyedhashSchemeRead
     ensures { λ r. ⌜ ReadsBack tpmtKeyedhashScheme (tpmtKeyedhashSchemeParts x) (now (src .entry)) (now (out .entry)) (tpmtKeyedhashSchemeAnswer r) (now (out .exit)) ⌝ }
 {
-    match x.marshal(src, out) {
+    let room = x.measure(src).lend(out.len());
+    match x.marshal(src, &mut out[..room]) {
         Measure::Size(_) => TpmtKeyedhashScheme::unmarshal(out, 0),
         Measure::No(f) => TpmtKeyedhashSchemeRead::No(f),
     }
@@ -89,7 +94,8 @@ pub fn tpmt_keyedhash_scheme_back(
 pub fn tpmt_sig_scheme_back(x: TpmtSigScheme, src: &[u8], out: &mut [u8]) -> TpmtSigSchemeRead
     ensures { λ r. ⌜ ReadsBack tpmtSigScheme (tpmtSigSchemeParts x) (now (src .entry)) (now (out .entry)) (tpmtSigSchemeAnswer r) (now (out .exit)) ⌝ }
 {
-    match x.marshal(src, out) {
+    let room = x.measure(src).lend(out.len());
+    match x.marshal(src, &mut out[..room]) {
         Measure::Size(_) => TpmtSigScheme::unmarshal(out, 0),
         Measure::No(f) => TpmtSigSchemeRead::No(f),
     }
@@ -98,7 +104,8 @@ pub fn tpmt_sig_scheme_back(x: TpmtSigScheme, src: &[u8], out: &mut [u8]) -> Tpm
 pub fn tpmt_rsa_scheme_back(x: TpmtRsaScheme, src: &[u8], out: &mut [u8]) -> TpmtRsaSchemeRead
     ensures { λ r. ⌜ ReadsBack tpmtAsymScheme (tpmtRsaSchemeParts x) (now (src .entry)) (now (out .entry)) (tpmtRsaSchemeAnswer r) (now (out .exit)) ⌝ }
 {
-    match x.marshal(src, out) {
+    let room = x.measure(src).lend(out.len());
+    match x.marshal(src, &mut out[..room]) {
         Measure::Size(_) => TpmtRsaScheme::unmarshal(out, 0),
         Measure::No(f) => TpmtRsaSchemeRead::No(f),
     }
@@ -107,7 +114,8 @@ pub fn tpmt_rsa_scheme_back(x: TpmtRsaScheme, src: &[u8], out: &mut [u8]) -> Tpm
 pub fn tpmt_ecc_scheme_back(x: TpmtEccScheme, src: &[u8], out: &mut [u8]) -> TpmtEccSchemeRead
     ensures { λ r. ⌜ ReadsBack tpmtAsymScheme (tpmtEccSchemeParts x) (now (src .entry)) (now (out .entry)) (tpmtEccSchemeAnswer r) (now (out .exit)) ⌝ }
 {
-    match x.marshal(src, out) {
+    let room = x.measure(src).lend(out.len());
+    match x.marshal(src, &mut out[..room]) {
         Measure::Size(_) => TpmtEccScheme::unmarshal(out, 0),
         Measure::No(f) => TpmtEccSchemeRead::No(f),
     }
@@ -116,7 +124,8 @@ pub fn tpmt_ecc_scheme_back(x: TpmtEccScheme, src: &[u8], out: &mut [u8]) -> Tpm
 pub fn tpmt_rsa_decrypt_back(x: TpmtRsaDecrypt, src: &[u8], out: &mut [u8]) -> TpmtRsaDecryptRead
     ensures { λ r. ⌜ ReadsBack tpmtAsymScheme (tpmtRsaDecryptParts x) (now (src .entry)) (now (out .entry)) (tpmtRsaDecryptAnswer r) (now (out .exit)) ⌝ }
 {
-    match x.marshal(src, out) {
+    let room = x.measure(src).lend(out.len());
+    match x.marshal(src, &mut out[..room]) {
         Measure::Size(_) => TpmtRsaDecrypt::unmarshal(out, 0),
         Measure::No(f) => TpmtRsaDecryptRead::No(f),
     }
@@ -125,7 +134,8 @@ pub fn tpmt_rsa_decrypt_back(x: TpmtRsaDecrypt, src: &[u8], out: &mut [u8]) -> T
 pub fn tpmt_public_parms_back(x: TpmtPublicParms, src: &[u8], out: &mut [u8]) -> TpmtPublicParmsRead
     ensures { λ r. ⌜ ReadsBack tpmtPublicParms (tpmtPublicParmsParts x) (now (src .entry)) (now (out .entry)) (tpmtPublicParmsAnswer r) (now (out .exit)) ⌝ }
 {
-    match x.marshal(src, out) {
+    let room = x.measure(src).lend(out.len());
+    match x.marshal(src, &mut out[..room]) {
         Measure::Size(_) => TpmtPublicParms::unmarshal(out, 0),
         Measure::No(f) => TpmtPublicParmsRead::No(f),
     }
@@ -134,7 +144,8 @@ pub fn tpmt_public_parms_back(x: TpmtPublicParms, src: &[u8], out: &mut [u8]) ->
 pub fn tpmt_signature_back(x: TpmtSignature, src: &[u8], out: &mut [u8]) -> TpmtSignatureRead
     ensures { λ r. ⌜ ReadsBack tpmtSignature (tpmtSignatureParts x) (now (src .entry)) (now (out .entry)) (tpmtSignatureAnswer r) (now (out .exit)) ⌝ }
 {
-    match x.marshal(src, out) {
+    let room = x.measure(src).lend(out.len());
+    match x.marshal(src, &mut out[..room]) {
         Measure::Size(_) => TpmtSignature::unmarshal(out, 0),
         Measure::No(f) => TpmtSignatureRead::No(f),
     }
@@ -143,7 +154,8 @@ pub fn tpmt_signature_back(x: TpmtSignature, src: &[u8], out: &mut [u8]) -> Tpmt
 pub fn tpmt_public_back(x: TpmtPublic, src: &[u8], out: &mut [u8]) -> TpmtPublicRead
     ensures { λ r. ⌜ ReadsBack tpmtPublic (tpmtPublicParts x) (now (src .entry)) (now (out .entry)) (tpmtPublicAnswer r) (now (out .exit)) ⌝ }
 {
-    match x.marshal(src, out) {
+    let room = x.measure(src).lend(out.len());
+    match x.marshal(src, &mut out[..room]) {
         Measure::Size(_) => TpmtPublic::unmarshal(out, 0),
         Measure::No(f) => TpmtPublicRead::No(f),
     }
@@ -152,7 +164,8 @@ pub fn tpmt_public_back(x: TpmtPublic, src: &[u8], out: &mut [u8]) -> TpmtPublic
 pub fn tpmt_sensitive_back(x: TpmtSensitive, src: &[u8], out: &mut [u8]) -> TpmtSensitiveRead
     ensures { λ r. ⌜ ReadsBack tpmtSensitive (tpmtSensitiveParts x) (now (src .entry)) (now (out .entry)) (tpmtSensitiveAnswer r) (now (out .exit)) ⌝ }
 {
-    match x.marshal(src, out) {
+    let room = x.measure(src).lend(out.len());
+    match x.marshal(src, &mut out[..room]) {
         Measure::Size(_) => TpmtSensitive::unmarshal(out, 0),
         Measure::No(f) => TpmtSensitiveRead::No(f),
     }
@@ -161,7 +174,8 @@ pub fn tpmt_sensitive_back(x: TpmtSensitive, src: &[u8], out: &mut [u8]) -> Tpmt
 pub fn tpms_attest_back(x: TpmsAttest, src: &[u8], out: &mut [u8]) -> TpmsAttestRead
     ensures { λ r. ⌜ ReadsBack tpmsAttest (tpmsAttestParts x) (now (src .entry)) (now (out .entry)) (tpmsAttestAnswer r) (now (out .exit)) ⌝ }
 {
-    match x.marshal(src, out) {
+    let room = x.measure(src).lend(out.len());
+    match x.marshal(src, &mut out[..room]) {
         Measure::Size(_) => TpmsAttest::unmarshal(out, 0),
         Measure::No(f) => TpmsAttestRead::No(f),
     }
@@ -174,7 +188,8 @@ pub fn tpml_pcr_selection_back(
 ) -> TpmlPcrSelectionRead
     ensures { λ r. ⌜ ReadsBack tpmlPcrSelection (tpmlPcrSelectionParts x) (now (src .entry)) (now (out .entry)) (tpmlPcrSelectionAnswer r) (now (out .exit)) ⌝ }
 {
-    match x.marshal(src, out) {
+    let room = x.measure(src).lend(out.len());
+    match x.marshal(src, &mut out[..room]) {
         Measure::Size(_) => TpmlPcrSelection::unmarshal(out, 0),
         Measure::No(f) => TpmlPcrSelectionRead::No(f),
     }

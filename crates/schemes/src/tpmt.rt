@@ -12,6 +12,7 @@ use codes::TpmAlgIdRead;
 use faults::Refusal;
 use steps::walk::Walk;
 use steps::walk::judging;
+use steps::walk::ready;
 use steps::walk::seeking;
 use wire::measure::Measure;
 use wire::read::nothing_behind;
@@ -25,7 +26,7 @@ ghost use Rattle.wire.specs.Fields.{partOf, sizeOf, fieldOf};
 ghost use Rattle.wire.specs.Places.{StandsAt, startAt};
 ghost use Rattle.format.specs.Kinds.{tpmtKdfScheme, tpmtKeyedhashScheme, tpmtSigScheme, tpmtAsymScheme};
 ghost use Rattle.steps.specs.Walks.{here, Walks};
-ghost use Rattle.steps.specs.Writes.{Writes};
+ghost use Rattle.steps.specs.Writes.{Measures, Writes};
 ghost use Rattle.schemes.specs.Answers.{tpmtKdfSchemeAnswer, tpmtKeyedhashSchemeAnswer, tpmtSigSchemeAnswer, tpmtRsaSchemeAnswer, tpmtEccSchemeAnswer, tpmtRsaDecryptAnswer};
 ghost use Rattle.schemes.specs.Parts.{tpmtKdfSchemeParts, tpmtKeyedhashSchemeParts, tpmtSigSchemeParts, tpmtRsaSchemeParts, tpmtEccSchemeParts, tpmtRsaDecryptParts};
 
@@ -131,11 +132,17 @@ impl TpmtKdfScheme {
         details.walk_tagged(self.scheme, w.algorithm(self.scheme, out), src, out)
     }
 
+    pub fn measure(self, src: &[u8]) -> Measure
+        ensures { λ r. ⌜ Measures tpmtKdfScheme (tpmtKdfSchemeParts self) (now (src .entry)) r ⌝ }
+    {
+        self.walk(judging(0), src, &mut []).answer()
+    }
+
     pub fn marshal(self, src: &[u8], out: &mut [u8]) -> Measure
         ensures { λ r. ⌜ Writes tpmtKdfScheme (tpmtKdfSchemeParts self) (now (src .entry)) (now (out .entry)) r (now (out .exit)) ⌝ }
     {
-        let judged = self.walk(judging(0), src, out);
-        self.walk(judged.ready(out.len()), src, out).answer()
+        let w = ready(self.measure(src), out.len());
+        self.walk(w, src, out).answer()
     }
 
     pub fn field<'a>(self, s: &'a [u8], index: usize) -> &'a [u8]
@@ -208,11 +215,17 @@ impl TpmtKeyedhashScheme {
         details.walk_tagged(self.scheme, w.algorithm(self.scheme, out), src, out)
     }
 
+    pub fn measure(self, src: &[u8]) -> Measure
+        ensures { λ r. ⌜ Measures tpmtKeyedhashScheme (tpmtKeyedhashSchemeParts self) (now (src .entry)) r ⌝ }
+    {
+        self.walk(judging(0), src, &mut []).answer()
+    }
+
     pub fn marshal(self, src: &[u8], out: &mut [u8]) -> Measure
         ensures { λ r. ⌜ Writes tpmtKeyedhashScheme (tpmtKeyedhashSchemeParts self) (now (src .entry)) (now (out .entry)) r (now (out .exit)) ⌝ }
     {
-        let judged = self.walk(judging(0), src, out);
-        self.walk(judged.ready(out.len()), src, out).answer()
+        let w = ready(self.measure(src), out.len());
+        self.walk(w, src, out).answer()
     }
 
     pub fn field<'a>(self, s: &'a [u8], index: usize) -> &'a [u8]
@@ -285,11 +298,17 @@ impl TpmtSigScheme {
         details.walk_tagged(self.scheme, w.algorithm(self.scheme, out), src, out)
     }
 
+    pub fn measure(self, src: &[u8]) -> Measure
+        ensures { λ r. ⌜ Measures tpmtSigScheme (tpmtSigSchemeParts self) (now (src .entry)) r ⌝ }
+    {
+        self.walk(judging(0), src, &mut []).answer()
+    }
+
     pub fn marshal(self, src: &[u8], out: &mut [u8]) -> Measure
         ensures { λ r. ⌜ Writes tpmtSigScheme (tpmtSigSchemeParts self) (now (src .entry)) (now (out .entry)) r (now (out .exit)) ⌝ }
     {
-        let judged = self.walk(judging(0), src, out);
-        self.walk(judged.ready(out.len()), src, out).answer()
+        let w = ready(self.measure(src), out.len());
+        self.walk(w, src, out).answer()
     }
 
     pub fn field<'a>(self, s: &'a [u8], index: usize) -> &'a [u8]
@@ -362,11 +381,17 @@ impl TpmtRsaScheme {
         details.walk_tagged(self.scheme, w.algorithm(self.scheme, out), src, out)
     }
 
+    pub fn measure(self, src: &[u8]) -> Measure
+        ensures { λ r. ⌜ Measures tpmtAsymScheme (tpmtRsaSchemeParts self) (now (src .entry)) r ⌝ }
+    {
+        self.walk(judging(0), src, &mut []).answer()
+    }
+
     pub fn marshal(self, src: &[u8], out: &mut [u8]) -> Measure
         ensures { λ r. ⌜ Writes tpmtAsymScheme (tpmtRsaSchemeParts self) (now (src .entry)) (now (out .entry)) r (now (out .exit)) ⌝ }
     {
-        let judged = self.walk(judging(0), src, out);
-        self.walk(judged.ready(out.len()), src, out).answer()
+        let w = ready(self.measure(src), out.len());
+        self.walk(w, src, out).answer()
     }
 
     pub fn field<'a>(self, s: &'a [u8], index: usize) -> &'a [u8]
@@ -439,11 +464,17 @@ impl TpmtEccScheme {
         details.walk_tagged(self.scheme, w.algorithm(self.scheme, out), src, out)
     }
 
+    pub fn measure(self, src: &[u8]) -> Measure
+        ensures { λ r. ⌜ Measures tpmtAsymScheme (tpmtEccSchemeParts self) (now (src .entry)) r ⌝ }
+    {
+        self.walk(judging(0), src, &mut []).answer()
+    }
+
     pub fn marshal(self, src: &[u8], out: &mut [u8]) -> Measure
         ensures { λ r. ⌜ Writes tpmtAsymScheme (tpmtEccSchemeParts self) (now (src .entry)) (now (out .entry)) r (now (out .exit)) ⌝ }
     {
-        let judged = self.walk(judging(0), src, out);
-        self.walk(judged.ready(out.len()), src, out).answer()
+        let w = ready(self.measure(src), out.len());
+        self.walk(w, src, out).answer()
     }
 
     pub fn field<'a>(self, s: &'a [u8], index: usize) -> &'a [u8]
@@ -516,11 +547,17 @@ impl TpmtRsaDecrypt {
         details.walk_tagged(self.scheme, w.algorithm(self.scheme, out), src, out)
     }
 
+    pub fn measure(self, src: &[u8]) -> Measure
+        ensures { λ r. ⌜ Measures tpmtAsymScheme (tpmtRsaDecryptParts self) (now (src .entry)) r ⌝ }
+    {
+        self.walk(judging(0), src, &mut []).answer()
+    }
+
     pub fn marshal(self, src: &[u8], out: &mut [u8]) -> Measure
         ensures { λ r. ⌜ Writes tpmtAsymScheme (tpmtRsaDecryptParts self) (now (src .entry)) (now (out .entry)) r (now (out .exit)) ⌝ }
     {
-        let judged = self.walk(judging(0), src, out);
-        self.walk(judged.ready(out.len()), src, out).answer()
+        let w = ready(self.measure(src), out.len());
+        self.walk(w, src, out).answer()
     }
 
     pub fn field<'a>(self, s: &'a [u8], index: usize) -> &'a [u8]

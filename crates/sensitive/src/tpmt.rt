@@ -7,6 +7,7 @@ use faults::Refusal;
 use format::limits;
 use steps::walk::Walk;
 use steps::walk::judging;
+use steps::walk::ready;
 use steps::walk::seeking;
 use wire::measure::Measure;
 use wire::read::SpanRead;
@@ -24,7 +25,7 @@ ghost use Rattle.wire.specs.Fields.{partOf, sizeOf, fieldOf};
 ghost use Rattle.wire.specs.Places.{StandsAt, startAt};
 ghost use Rattle.format.specs.Kinds.{tpmtSensitive};
 ghost use Rattle.steps.specs.Walks.{here, Walks};
-ghost use Rattle.steps.specs.Writes.{Writes};
+ghost use Rattle.steps.specs.Writes.{Measures, Writes};
 ghost use Rattle.sensitive.specs.Answers.{tpmtSensitiveAnswer};
 ghost use Rattle.sensitive.specs.Parts.{tpmtSensitiveParts};
 
@@ -107,11 +108,17 @@ impl TpmtSensitive {
         sensitive.walk_tagged(self.sensitive_type, v, src, out)
     }
 
+    pub fn measure(self, src: &[u8]) -> Measure
+        ensures { λ r. ⌜ Measures tpmtSensitive (tpmtSensitiveParts self) (now (src .entry)) r ⌝ }
+    {
+        self.walk(judging(0), src, &mut []).answer()
+    }
+
     pub fn marshal(self, src: &[u8], out: &mut [u8]) -> Measure
         ensures { λ r. ⌜ Writes tpmtSensitive (tpmtSensitiveParts self) (now (src .entry)) (now (out .entry)) r (now (out .exit)) ⌝ }
     {
-        let judged = self.walk(judging(0), src, out);
-        self.walk(judged.ready(out.len()), src, out).answer()
+        let w = ready(self.measure(src), out.len());
+        self.walk(w, src, out).answer()
     }
 
     pub fn field<'a>(self, s: &'a [u8], index: usize) -> &'a [u8]

@@ -22,7 +22,7 @@ use Rattle.wire.proofs.Steps.{found-refused, found-same, when-found}
 use Rattle.steps.specs.declared.walk.Walk.{Walk}
 use Rattle.steps.specs.Steps.{Step, Plain, Buffer, Due, spellStep, dueSize}
 use Rattle.steps.specs.Near.{Near}
-use Rattle.steps.specs.Walks.{Here, here, putting, seeking, refusing, finding, lining, after, judged, judgeDue, judgeSized, judgeStep, countOf, Moves, putOne, putSpan, putStep, seekSpan, seekStep, listStep, forLines, toPlace, lineStep, stepBy, stepWalk, run, Goes, Dues, readyBy, readyWalk, faultOf, answerBy, walkAnswer}
+use Rattle.steps.specs.Walks.{Here, here, putting, seeking, refusing, finding, lining, after, judged, judgeDue, judgeSized, judgeStep, countOf, Moves, putOne, putSpan, putStep, seekSpan, seekStep, listStep, forLines, toPlace, lineStep, stepBy, stepWalk, run, Goes, Dues, readyWalk, faultOf, answerBy, walkAnswer}
 
 -- ---- what a walk is for
 
@@ -56,22 +56,18 @@ numbered Fault.Oversize = refl
 
 -- ---- writing
 
-module _ (w : Walk) (k : ℕ) where
-  pub ready-fits : (r : Walk) → w .mode ≡ 0 → w .at ≤ k → r ≡ putting 0 → r ≡ readyWalk w k
+module _ (m : Measure) (k : ℕ) where
+  pub ready-fits : (n : ℕ) (r : Walk) → m ≡ Measure.Size n → n ≤ k → r ≡ putting 0 → r ≡ readyWalk (measureAnswer m) k
   unfolding readyWalk
-  ready-fits r e h p = rw (e, le-leb (w .at) k h) p
+  ready-fits n r e h p = rw (e, le-leb n k h) p
 
-  pub ready-full : (f : Refusal) (r : Walk) → w .mode ≡ 0 → k < w .at → f ≡ noRoom 0 (w .at) → r ≡ refusing f → r ≡ readyWalk w k
+  pub ready-full : (n : ℕ) (f : Refusal) (r : Walk) → m ≡ Measure.Size n → k < n → f ≡ noRoom 0 n → r ≡ refusing f → r ≡ readyWalk (measureAnswer m) k
   unfolding readyWalk
-  ready-full f r e h why p = rw (e, lt-leb (w .at) k h) (p ∙ ap refusing why)
+  ready-full n f r e h why p = rw (e, lt-leb n k h) (p ∙ ap refusing why)
 
-  pub ready-done : (w .mode ≡ 0 → ⊥) → w ≡ readyWalk w k
+  pub ready-none : (f : Refusal) (r : Walk) → m ≡ Measure.No f → r ≡ refusing f → r ≡ readyWalk (measureAnswer m) k
   unfolding readyWalk
-  ready-done h = by (w .mode) h
-    where
-      by : (m : ℕ) → (m ≡ 0 → ⊥) → w ≡ readyBy m w k
-      by zero h = absurd (h refl)
-      by (suc m) h = refl
+  ready-none f r e p = rw e p
 
 module _ (w : Walk) where
   pub answer-text : w .mode ≡ 3 → found (w .value) ≡ walkAnswer w

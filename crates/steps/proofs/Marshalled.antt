@@ -1,4 +1,4 @@
--- A record that is walked over twice, to judge it and to put it, is written. Assumes nothing.
+-- A record that is walked over to judge it is measured, and walked over again to put it, it is written. Assumes nothing.
 use Prim.Native.Nat.{ℕ, _+_, _-_, _≤_}
 use native.Mathlib.Nat.{zero-add}
 use native.Mathlib.Omega.{arith}
@@ -16,10 +16,11 @@ use Rattle.wire.specs.Layout.{Layout}
 use Rattle.wire.specs.Records.{Part, Ans, found, refused}
 use Rattle.wire.specs.Writing.{lay}
 use Rattle.wire.specs.Filling.{written, filled}
+use Rattle.wire.specs.Fields.{sizeOf}
 use Rattle.steps.specs.Steps.{Step, spell}
 use Rattle.steps.specs.declared.walk.Walk.{Walk}
 use Rattle.steps.specs.Walks.{Here, here, judging, putting, refusing, after, judged, run, Walks, readyWalk, walkAnswer}
-use Rattle.steps.specs.Writes.{Writes}
+use Rattle.steps.specs.Writes.{Measures, Writes}
 use Rattle.steps.proofs.Leaves.{numbered}
 use Rattle.steps.proofs.Runs.{stays-no, run-judges, run-puts}
 pub use borrow.Author.Needs.{needs}
@@ -41,28 +42,35 @@ module _ (ss : List Step) (src old : List ℕ) where
       let there : 0 + length bs ≡ length bs + 0 = omega arith in
       (ap (λ x. walkAnswer (x .walk)) e ∙ ap walkAnswer (q .put) ∙ ap found place, ap (λ x. x .out) e ∙ q .puts .holds ∙ ap (λ n. bs ++ drop n old) there)
 
-  second : (a : Ans (List ℕ)) {h : Here} → spell ss src 0 ≡ a → h ≡ run ss src (here (readyWalk (judged (after 0 a)) (length old)) old)
+  second : (a : Ans (List ℕ)) {h : Here} → spell ss src 0 ≡ a → h ≡ run ss src (here (readyWalk (sizeOf a) (length old)) old)
       → (walkAnswer (h .walk) ≡ written 0 a old) × (h .out ≡ filled 0 a old)
   unfolding readyWalk
   second (found bs) {h} p e = by (leb (length bs) (length old)) refl
     where
-      g : h ≡ run ss src (here (readyWalk (judging (length bs)) (length old)) old)
-      g = e ∙ ap (λ n. run ss src (here (readyWalk (judging n) (length old)) old)) (zero-add (length bs))
-
       all : length old - 0 ≡ length old
       all = omega arith
 
       by : (b : Bool) → leb (length bs) (length old) ≡ b → (walkAnswer (h .walk) ≡ written 0 (found bs) old) × (h .out ≡ filled 0 (found bs) old)
-      by true t = rw (ap (λ n. leb (length bs) n) all ∙ t) (put-walk bs p (leb-true (length bs) (length old) t) (rw t at g))
-      by false t = rw (ap (λ n. leb (length bs) n) all ∙ t) (refused-walk (noRoom 0 (length bs)) (rw t at g))
+      by true t = rw (ap (λ n. leb (length bs) n) all ∙ t) (put-walk bs p (leb-true (length bs) (length old) t) (rw t at e))
+      by false t = rw (ap (λ n. leb (length bs) n) all ∙ t) (refused-walk (noRoom 0 (length bs)) (rw t at e))
   second (refused f) p e = refused-walk f e
 
-pub marshalled : (k : ℕ) (l : Layout) (ps ls ms : List Part) (src old mid last : List ℕ) (u w v z : Walk) (r : Measure) → u ≡ judging 0 → Walks k l ps ls src (here u old) (here w mid)
-    → v ≡ readyWalk w (length mid) → Walks k l ps ms src (here v mid) (here z last) → measureAnswer r ≡ walkAnswer z → leb k 24 ≡ true → Writes l ps src old r last
-marshalled k l ps ls ms src old mid last u w v z r begin p ready q told few =
+-- what was judged from the front on is answered as its size
+judged-size : (a : Ans (List ℕ)) → walkAnswer (judged (after 0 a)) ≡ sizeOf a
+unfolding walkAnswer
+judged-size (found bs) = ap found (zero-add (length bs))
+judged-size (refused f) = refusing-answer f
+
+pub measured : (k : ℕ) (l : Layout) (ps ls : List Part) (src old mid : List ℕ) (u w : Walk) (r : Measure) → u ≡ judging 0 → Walks k l ps ls src (here u old) (here w mid)
+    → measureAnswer r ≡ walkAnswer w → leb k 24 ≡ true → Measures l ps src r
+measured k l ps ls src old mid u w r begin p told few =
     let small = leb-true k 24 few in
-    let first = p .goes .same ∙ ap (λ x. run (p .steps) src (here x old)) begin ∙ run-judges (p .steps) src 0 old (omega (arith, p .short)) ∙ ap (λ a. here (judged (after 0 a)) old) (sym (p .plans .lays src 0)) in
-    let same : mid ≡ old = ap (λ h. h .out) first in
-    let begun : v ≡ readyWalk (judged (after 0 (lay l ps src 0))) (length old) = ready ∙ ap (λ h. readyWalk (h .walk) (length (h .out))) first in
-    let (said, left) = second (q .steps) src old (lay l ps src 0) (sym (q .plans .lays src 0)) (q .goes .same ∙ ap (λ x. run (q .steps) src (here v x)) same ∙ ap (λ x. run (q .steps) src (here x old)) begun) in
+    let judges = p .goes .same ∙ ap (λ x. run (p .steps) src (here x old)) begin ∙ run-judges (p .steps) src 0 old (omega (arith, p .short)) ∙ ap (λ a. here (judged (after 0 a)) old) (sym (p .plans .lays src 0)) in
+    record { answer = told ∙ ap (λ h. walkAnswer (h .walk)) judges ∙ judged-size (lay l ps src 0); shaped = p .plans .shaped }
+
+pub marshalled : (k : ℕ) (l : Layout) (ps ls : List Part) (src old last : List ℕ) (v z : Walk) (m r : Measure) → Measures l ps src m
+    → v ≡ readyWalk (measureAnswer m) (length old) → Walks k l ps ls src (here v old) (here z last) → measureAnswer r ≡ walkAnswer z → Writes l ps src old r last
+marshalled k l ps ls src old last v z m r measure ready p told =
+    let begun : v ≡ readyWalk (sizeOf (lay l ps src 0)) (length old) = ready ∙ ap (λ a. readyWalk a (length old)) (measure .answer) in
+    let (said, left) = second (p .steps) src old (lay l ps src 0) (sym (p .plans .lays src 0)) (p .goes .same ∙ ap (λ x. run (p .steps) src (here x old)) begun) in
     record { answer = told ∙ said; buffer = left; shaped = p .plans .shaped }

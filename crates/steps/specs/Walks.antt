@@ -7,7 +7,7 @@ use lib.ListN.{length}
 use lib.Dec.{leb, eqb}
 use Rattle.faults.specs.declared.Fault.{Fault}
 use Rattle.faults.specs.declared.Refusal.{Refusal}
-use Rattle.faults.specs.Faults.{paper, refusal, noField, noRoom, noSuchArm, mismatch}
+use Rattle.faults.specs.Faults.{paper, refusal, noField, noSuchArm, mismatch}
 use Rattle.wire.specs.declared.choice.Choice.{Choice}
 use Rattle.wire.specs.declared.span.Span.{Span}
 use Rattle.wire.specs.declared.width.Width.{Width}
@@ -17,7 +17,7 @@ use Rattle.wire.specs.Layout.{Rule, Layout}
 use Rattle.wire.specs.Lines.{Line, line}
 use Rattle.wire.specs.Records.{Part, Ans, found, refused, next}
 use Rattle.wire.specs.Writing.{cut}
-use Rattle.wire.specs.Filling.{written, filled}
+use Rattle.wire.specs.Filling.{written, filled, roomed}
 use Rattle.wire.specs.Places.{startIf}
 use Rattle.text.specs.declared.line.Word.{Word}
 use Rattle.text.specs.Puts.{fitted}
@@ -265,14 +265,14 @@ pub record Numbers (w : Width) (rule : Rule) (n : ℕ) (a b : Here) : Type 0 whe
 pub record Dues (v : ℕ) (c : Choice) (held : Bool) (a b : Walk) : Type 0 where
   pub goes : (src out : List ℕ) → Goes (Due v c held ∷ []) src (here a out) (here b out)
 
--- ---- writing: judged first, and put only if the record is legal and there is room
+-- ---- writing: measured first, and put only if the record is legal and there is room
 
-abbrev pub readyBy : (mode : ℕ) → Walk → (room : ℕ) → Walk
-readyBy zero w k = cond (leb (w .at) k) (putting 0) (refusing (noRoom 0 (w .at)))
-readyBy (suc n) w k = w
+abbrev pub readyBy : Ans ℕ → Walk
+readyBy (found n) = putting 0
+readyBy (refused f) = refusing f
 
-unfoldable pub readyWalk : Walk → (room : ℕ) → Walk
-readyWalk w k = readyBy (w .mode) w k
+unfoldable pub readyWalk : Ans ℕ → (room : ℕ) → Walk
+readyWalk a k = readyBy (roomed k a)
 
 -- the fault with a number
 abbrev pub faultOf : ℕ → Fault

@@ -135,21 +135,22 @@ fn fault_of(n: usize) -> Fault
     }
 }
 
-impl Walk {
-    // After a record was judged: ready to put it, if there is room.
-    pub fn ready(self, room: usize) -> Walk
-        ensures { λ r. ⌜ r ≡ readyWalk self room ⌝ }
-    {
-        let n = self.at;
-        if self.mode == JUDGE {
+// After a record was measured: ready to put it, if there is room.
+pub fn ready(measured: Measure, room: usize) -> Walk
+    ensures { λ r. ⌜ r ≡ readyWalk (measureAnswer measured) room ⌝ }
+{
+    match measured {
+        Measure::Size(n) => {
             if n <= room {
                 return putting(0);
             }
-            return refusing(Refusal::no_room(0, n));
+            refusing(Refusal::no_room(0, n))
         }
-        self
+        Measure::No(f) => refusing(f),
     }
+}
 
+impl Walk {
     // How far it came, or why not.
     pub fn answer(self) -> Measure
         ensures { λ r. ⌜ measureAnswer r ≡ walkAnswer self ⌝ }

@@ -39,4 +39,5 @@ pub mod ListsKept
 pub mod Widths
 pub mod Numbers
 pub mod Filling
+pub mod Lending
 pub mod Starts

@@ -1,4 +1,5 @@
--- What is written into a lent buffer from the place `at` on, and what the buffer holds then. Assumes nothing.
+-- What is written into a lent buffer from the place `at` on, and what the buffer holds then; and what a size that was measured says of
+-- both. Assumes nothing.
 use Prim.Native.Nat.{ℕ, _+_, _-_}
 use mathlib.Core.List.{List, _++_}
 use mathlib.Core.Bool.{Bool, cond}
@@ -20,3 +21,15 @@ written at (refused f) old = refused f
 abbrev pub filled : (at : ℕ) → Ans (List ℕ) → (old : List ℕ) → List ℕ
 filled at (found bs) old = cond (fits at bs old) (take at old ++ (bs ++ drop (length bs + at) old)) old
 filled at (refused f) old = old
+
+-- ---- a size that was measured, and a room for it
+
+-- the same answer, but NoRoom at 0 with the size, where the size passes the room
+abbrev pub roomed : (room : ℕ) → Ans ℕ → Ans ℕ
+roomed room (found n) = cond (leb n room) (found n) (refused (noRoom 0 n))
+roomed room (refused f) = refused f
+
+-- how many of the bytes that are there are lent for it: as many as the size says, all where there are fewer, none for a refusal
+abbrev pub lend : Ans ℕ → (there : ℕ) → ℕ
+lend (found n) there = cond (leb n there) n there
+lend (refused f) there = 0

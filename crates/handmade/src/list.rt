@@ -1,0 +1,56 @@
+// Cases of kind 14: a list.
+use crate::said::SPACE;
+use crate::said::UNTOUCHED;
+use crate::said::one_less;
+use crate::said::say_measured;
+use crate::said::say_written;
+use attest::list::TpmlPcrSelection;
+use wire::measure::Measure;
+use wire::span::Span;
+
+fn list_lent(case: u64, x: TpmlPcrSelection, src: &[u8], room: usize, space: &mut [u8]) {
+    if room > space.len() {
+        return;
+    }
+    let written = x.marshal(src, &mut space[..room]);
+    say_written(case, room, written, space);
+}
+
+fn list_into(case: u64, x: TpmlPcrSelection, src: &[u8], room: usize) {
+    let mut space = [UNTOUCHED; SPACE];
+    list_lent(case, x, src, room, &mut space);
+}
+
+fn list_tried(case: u64, x: TpmlPcrSelection, src: &[u8]) {
+    let measured = x.measure(src);
+    say_measured(case, measured);
+    list_into(case, x, src, SPACE);
+    match measured {
+        Measure::Size(n) => {
+            list_into(case, x, src, n);
+            list_into(case, x, src, one_less(n));
+        }
+        Measure::No(_) => {}
+    }
+    list_into(case, x, src, 0);
+}
+
+fn list(case: u64, start: usize, len: usize, src: &[u8]) {
+    let x = TpmlPcrSelection {
+        items: Span::new(start, len),
+    };
+    list_tried(case, x, src);
+}
+
+pub fn lists() {
+    let one = [0, 0, 0, 1, 0, 0x0b, 0];
+    list(24, 0, 7, &one);
+    list(25, 0, 8, &[0, 0, 0, 1, 0, 0x0b, 0, 0xff]);
+    list(26, 0, 5, &one);
+    list(27, 0, 3, &one);
+    list(28, 0, 4, &[0, 0, 0, 17]);
+    list(29, 0, 7, &[0, 0, 0, 1, 0, 2, 0]);
+    list(30, 0, 7, &[0, 0, 0, 1, 0, 0x0b, 5]);
+    list(31, 0, 9, &[0, 0, 0, 1, 0, 0x0b, 3, 1, 2]);
+    list(32, 1, 7, &one);
+}
