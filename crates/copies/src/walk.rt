@@ -1,4 +1,4 @@
-// A record of any kind by the kind's number, walked over: listed, or copied.
+// A record of any kind by the kind's number, walked over: listed, measured, or copied.
 use attest::attestation::TpmsAttest;
 use attest::attestation::TpmsAttestRead;
 use attest::list::TpmlPcrSelection;
