@@ -26,6 +26,8 @@ def answers(text, made):
         raise Wrong('our answers do not end with a line')
     if 'changed' in lines:
         raise Wrong('a writer of ours changed what it was not to write')
+    if 'measured otherwise' in lines:
+        raise Wrong('a measure of ours is not what the writer answers')
     at = 0
     for case in made:
         start = at
