@@ -280,7 +280,7 @@ fn wrong_arms(t: &mut Tally) {
     let area = TpmtPublic { object_type: TpmAlgId::KeyedHash, parameters, ..TpmtPublic::default() };
     t.text("2.6 kind 11, unique Null: offset 0, value 8, ahead of the scheme", written(&area, 99), not_its_arm(0, 8, ""));
     t.text("2.6 kind 1, Sha1 with Null, and Rsa: len 2", [sha1.len(), rsa.len()], [2; 2]);
-    t.text("2.6 kind 2, Aes with Aes(128), Null: len 4", aes.len(), 4);
+    t.rebuilt("2.6 kind 2, Aes with Aes(128), Null: len 4", aes.len(), 4);
     t.text("2.6 kind 2, Null with Aes(128): len 2", with_bits.len(), 2);
     t.rebuilt("2.6 kind 11, unique Null: len 12", area.len(), 12);
 }

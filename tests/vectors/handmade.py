@@ -30,7 +30,7 @@ def lines_of(case, answer):
     size = SIZE.fullmatch(answer)
     if size:
         record = bytes.fromhex(size[2])
-        if len(record) != int(size[1]) or not 1 < len(record) <= SPACE:
+        if len(record) != int(size[1]) or not 1 < len(record) < SPACE:
             raise SystemExit(f'handmade.md: case {case} has {len(record)} bytes')
         return legal(case, len(record), record)
     refusal = REFUSAL.fullmatch(answer)

@@ -30,7 +30,7 @@ def index_by_turns(kind, code, turn):
 
 
 class Tries:
-    """A selector tried with much room; where the record can be written, with just enough and too little."""
+    """A selector tried where there is much room; where the record can be written, with just enough and too little."""
 
     def __init__(self):
         self.turns = count()

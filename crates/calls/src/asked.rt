@@ -1,6 +1,7 @@
 // What is asked of a record that was made for a case: what it is written as, into just as much of the room as it measures, and a byte field
 // and an item of it. Its spans are of src. Between the two it is said what stood behind the record when it was read.
 use crate::case::Case;
+use crate::said::room_for;
 use crate::said::say_parts;
 use crate::said::say_written;
 use attest::attestation::TpmsAttest;
@@ -20,7 +21,7 @@ use signatures::tpmt::TpmtSignature;
 
 pub fn tpmt_ha_asked(case: Case, y: TpmtHa, tail: &[u8], src: &[u8], out: &mut [u8]) {
     let measured = y.measure(src);
-    let room = measured.lend(out.len());
+    let room = room_for(measured, out.len());
     let written = y.marshal(src, &mut out[..room]);
     say_written(case, measured, written, out);
     say_parts(
@@ -35,7 +36,7 @@ pub fn tpmt_ha_asked(case: Case, y: TpmtHa, tail: &[u8], src: &[u8], out: &mut [
 
 pub fn tpmt_sym_def_asked(case: Case, y: TpmtSymDef, tail: &[u8], src: &[u8], out: &mut [u8]) {
     let measured = y.measure(src);
-    let room = measured.lend(out.len());
+    let room = room_for(measured, out.len());
     let written = y.marshal(src, &mut out[..room]);
     say_written(case, measured, written, out);
     say_parts(
@@ -56,7 +57,7 @@ pub fn tpmt_kdf_scheme_asked(
     out: &mut [u8],
 ) {
     let measured = y.measure(src);
-    let room = measured.lend(out.len());
+    let room = room_for(measured, out.len());
     let written = y.marshal(src, &mut out[..room]);
     say_written(case, measured, written, out);
     say_parts(
@@ -77,7 +78,7 @@ pub fn tpmt_keyedhash_scheme_asked(
     out: &mut [u8],
 ) {
     let measured = y.measure(src);
-    let room = measured.lend(out.len());
+    let room = room_for(measured, out.len());
     let written = y.marshal(src, &mut out[..room]);
     say_written(case, measured, written, out);
     say_parts(
@@ -98,7 +99,7 @@ pub fn tpmt_sig_scheme_asked(
     out: &mut [u8],
 ) {
     let measured = y.measure(src);
-    let room = measured.lend(out.len());
+    let room = room_for(measured, out.len());
     let written = y.marshal(src, &mut out[..room]);
     say_written(case, measured, written, out);
     say_parts(
@@ -119,7 +120,7 @@ pub fn tpmt_rsa_scheme_asked(
     out: &mut [u8],
 ) {
     let measured = y.measure(src);
-    let room = measured.lend(out.len());
+    let room = room_for(measured, out.len());
     let written = y.marshal(src, &mut out[..room]);
     say_written(case, measured, written, out);
     say_parts(
@@ -140,7 +141,7 @@ pub fn tpmt_ecc_scheme_asked(
     out: &mut [u8],
 ) {
     let measured = y.measure(src);
-    let room = measured.lend(out.len());
+    let room = room_for(measured, out.len());
     let written = y.marshal(src, &mut out[..room]);
     say_written(case, measured, written, out);
     say_parts(
@@ -161,7 +162,7 @@ pub fn tpmt_rsa_decrypt_asked(
     out: &mut [u8],
 ) {
     let measured = y.measure(src);
-    let room = measured.lend(out.len());
+    let room = room_for(measured, out.len());
     let written = y.marshal(src, &mut out[..room]);
     say_written(case, measured, written, out);
     say_parts(
@@ -182,7 +183,7 @@ pub fn tpmt_public_parms_asked(
     out: &mut [u8],
 ) {
     let measured = y.measure(src);
-    let room = measured.lend(out.len());
+    let room = room_for(measured, out.len());
     let written = y.marshal(src, &mut out[..room]);
     say_written(case, measured, written, out);
     say_parts(
@@ -197,7 +198,7 @@ pub fn tpmt_public_parms_asked(
 
 pub fn tpmt_signature_asked(case: Case, y: TpmtSignature, tail: &[u8], src: &[u8], out: &mut [u8]) {
     let measured = y.measure(src);
-    let room = measured.lend(out.len());
+    let room = room_for(measured, out.len());
     let written = y.marshal(src, &mut out[..room]);
     say_written(case, measured, written, out);
     say_parts(
@@ -212,7 +213,7 @@ pub fn tpmt_signature_asked(case: Case, y: TpmtSignature, tail: &[u8], src: &[u8
 
 pub fn tpmt_public_asked(case: Case, y: TpmtPublic, tail: &[u8], src: &[u8], out: &mut [u8]) {
     let measured = y.measure(src);
-    let room = measured.lend(out.len());
+    let room = room_for(measured, out.len());
     let written = y.marshal(src, &mut out[..room]);
     say_written(case, measured, written, out);
     say_parts(
@@ -227,7 +228,7 @@ pub fn tpmt_public_asked(case: Case, y: TpmtPublic, tail: &[u8], src: &[u8], out
 
 pub fn tpmt_sensitive_asked(case: Case, y: TpmtSensitive, tail: &[u8], src: &[u8], out: &mut [u8]) {
     let measured = y.measure(src);
-    let room = measured.lend(out.len());
+    let room = room_for(measured, out.len());
     let written = y.marshal(src, &mut out[..room]);
     say_written(case, measured, written, out);
     say_parts(
@@ -242,7 +243,7 @@ pub fn tpmt_sensitive_asked(case: Case, y: TpmtSensitive, tail: &[u8], src: &[u8
 
 pub fn tpms_attest_asked(case: Case, y: TpmsAttest, tail: &[u8], src: &[u8], out: &mut [u8]) {
     let measured = y.measure(src);
-    let room = measured.lend(out.len());
+    let room = room_for(measured, out.len());
     let written = y.marshal(src, &mut out[..room]);
     say_written(case, measured, written, out);
     say_parts(
@@ -263,7 +264,7 @@ pub fn tpml_pcr_selection_asked(
     out: &mut [u8],
 ) {
     let measured = y.measure(src);
-    let room = measured.lend(out.len());
+    let room = room_for(measured, out.len());
     let written = y.marshal(src, &mut out[..room]);
     say_written(case, measured, written, out);
     say_parts(

@@ -4,6 +4,7 @@ use faults::Refusal;
 use text::answer::fit_refusal_line;
 use text::put::put_hex;
 use wire::measure::Measure;
+ghost use Prim.Native.Nat.{_≤_};
 
 // Every byte of the output that is lent, before it is written to.
 pub const UNTOUCHED: u8 = 0xa5;
@@ -62,6 +63,17 @@ fn say_written_bytes(out: &[u8], n: usize) {
     }
 }
 
+// How many bytes a writer is lent: just as many as were measured. One that is to refuse is lent all the room, so that it shows if it puts a
+// byte before it does.
+pub fn room_for(measured: Measure, there: usize) -> usize
+    ensures { λ r. ⌜ r ≤ there ⌝ }
+{
+    match measured {
+        Measure::Size(_) => measured.lend(there),
+        Measure::No(_) => there,
+    }
+}
+
 fn is_same_refusal(a: Refusal, b: Refusal) -> bool {
     let first = a.fault;
     let second = b.fault;
@@ -82,7 +94,7 @@ fn is_as_measured(measured: Measure, written: Measure) -> bool {
     }
 }
 
-// What a writer answered, and whether it left the rest of its output alone and was measured so.
+// What a writer answered; whether it left the rest of its output alone, and whether that is what was measured.
 pub fn say_written(case: Case, measured: Measure, written: Measure, out: &[u8]) {
     match written {
         Measure::Size(n) => say_written_bytes(out, n),

@@ -1,8 +1,8 @@
 // Kinds 1 and 2: a selector, and the unions that it chooses from.
 //
 // A kind is read as a prefix by `unmarshal`, and by `whole` with nothing left behind it. `walk` goes over its fields in wire order, for
-// whatever the walk is for. `measure` judges it: it answers how many bytes it is written as, or the first field's refusal, and takes no
-// output. `marshal` writes it: it is measured first, and not a byte is put unless all of it is legal and fits. `field` is the part of s at
+// whatever the walk is for. `measure` judges it: it answers how many bytes it is written as, or the refusal of the first field that may
+// not be written, and takes no output. `marshal` writes it: it is measured first, and not a byte is put unless all of it is legal and fits. `field` is the part of s at
 // the byte field with an index, empty where there is none, and `field_size` says how long it is or why there is none; `item` and
 // `item_size` are the same of the items of its list. Spans of a record are of the slice that it was read from.
 use crate::tpmu::TpmuHa;

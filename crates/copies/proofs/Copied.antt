@@ -25,7 +25,7 @@ use Rattle.format.specs.Kinds.{layoutOf, readKind}
 use Rattle.format.specs.Refused.{RefusesKind}
 use Rattle.format.proofs.Legal.{legal-is-read-by-number, read-by-number-is-legal, refusal-by-number-is-first, first-is-refusal-by-number, refused-by-number-says-what-it-had}
 use Rattle.copies.specs.Copied.{bytesRead, recordBytes, Begins, MeasuresKind, Copies}
-use Rattle.copies.proofs.Lent.{room-is-used, no-room-is-refused, size-is-of-bytes, refusal-or-no-room, lent-tells, refusal-changes-nothing, size-of-bytes, size-of-refused}
+use Rattle.copies.proofs.Lent.{room-is-used, no-room-is-refused, size-is-of-bytes, refusal-or-no-room, lent-tells, refusal-changes-nothing, size-of-bytes, size-of-refused, size-told, size-answers}
 
 -- ---- the bytes of the record at the front
 
@@ -63,30 +63,24 @@ module _ (k : ℕ) (src : List ℕ) where
 -- ---- what a measure owes, from its equation
 
 module _ (k : ℕ) (src : List ℕ) (r : Measure) (b : Bytes src) (answer : measureAnswer r ≡ sizeOf (recordBytes k src)) where
-  size-told : {s : Measure} → r ≡ s → sizeOf (recordBytes k src) ≡ measureAnswer s
-  size-told e = sym answer ∙ ap measureAnswer e
-
-  size-answers : (s : Measure) → sizeOf (recordBytes k src) ≡ measureAnswer s → r ≡ s
-  size-answers s e = measure-answer-once r s (answer ∙ e)
-
   none-read : {f : Refusal} → r ≡ Measure.No f → readKind k src 0 ≡ refused f
-  none-read e = no-bytes-read k src (size-of-refused (recordBytes k src) (size-told e))
+  none-read e = no-bytes-read k src (size-of-refused (recordBytes k src) (size-told (recordBytes k src) r answer e))
 
   measured-legal : {n : ℕ} → r ≡ Measure.Size n → (ts : List Token) × (bs : List ℕ) × Begins k src ts bs × (length bs ≡ n)
   measured-legal e =
-      let (bs, there, size) = size-of-bytes (recordBytes k src) (size-told e) in
+      let (bs, there, size) = size-of-bytes (recordBytes k src) (size-told (recordBytes k src) r answer e) in
       let (ts, d) = bytes-are-legal k src b there in
       (ts, bs, d, size)
 
   first-not-measured : {f : Refusal} → RefusesKind k src 0 f → r ≡ Measure.No f
   unfolding recordBytes
-  first-not-measured {f} d = size-answers (Measure.No f) (ap (λ a. sizeOf (bytesRead a src)) (first-is-refusal-by-number k d))
+  first-not-measured {f} d = size-answers (recordBytes k src) r answer (Measure.No f) (ap (λ a. sizeOf (bytesRead a src)) (first-is-refusal-by-number k d))
 
   pub measures-kind : MeasuresKind k src r
   measures-kind =
       record {
         answer = answer;
-        legal-is-measured = λ {ts} {bs} d. size-answers (Measure.Size (length bs)) (ap sizeOf (legal-bytes k src d));
+        legal-is-measured = λ {ts} {bs} d. size-answers (recordBytes k src) r answer (Measure.Size (length bs)) (ap sizeOf (legal-bytes k src d));
         measured-is-legal = measured-legal;
         refusal-is-first = λ e. refusal-by-number-is-first k src 0 b (none-read e);
         refusal-says-what-it-had = λ {f} e. refused-by-number-says-what-it-had k src 0 f (none-read e);

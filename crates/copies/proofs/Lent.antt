@@ -13,10 +13,13 @@ use lib.Dec.{leb}
 use borrow.Author.Tests.{le-leb, lt-leb, leb-true, leb-false}
 use Rattle.faults.specs.declared.Refusal.{Refusal}
 use Rattle.faults.specs.Faults.{noRoom}
+use Rattle.wire.specs.declared.measure.Measure.{Measure}
+use Rattle.wire.specs.Answers.{measureAnswer}
 use Rattle.wire.specs.Records.{Ans, found, refused}
 use Rattle.wire.specs.Refusals.{HadFew}
 use Rattle.wire.specs.Fields.{sizeOf}
 use Rattle.wire.specs.Filling.{written, filled, roomed, lend}
+use Rattle.wire.proofs.Answers.{measure-answer-once}
 use Rattle.wire.proofs.Steps.{found-refused, found-same, refused-same}
 use Rattle.wire.proofs.Had.{other, other-few, Tells}
 use Rattle.wire.proofs.Filling.{fits-put, fits-not}
@@ -108,6 +111,14 @@ size-of-bytes (refused f) p = absurd (found-refused p)
 pub size-of-refused : (a : Ans (List ℕ)) {f : Refusal} → sizeOf a ≡ refused f → a ≡ refused f
 size-of-refused (found bs) p = absurd (found-refused (sym p))
 size-of-refused (refused g) p = ap refused (refused-same p)
+
+-- what the code answered of a size, in the definitions' terms, and back
+module _ (a : Ans (List ℕ)) (m : Measure) (answer : measureAnswer m ≡ sizeOf a) where
+  pub size-told : {x : Measure} → m ≡ x → sizeOf a ≡ measureAnswer x
+  size-told e = sym answer ∙ ap measureAnswer e
+
+  pub size-answers : (x : Measure) → sizeOf a ≡ measureAnswer x → m ≡ x
+  size-answers x e = measure-answer-once m x (answer ∙ e)
 
 -- what a writer answers is the size, with room for it
 pub written-is-roomed : (a : Ans (List ℕ)) (old : List ℕ) → written 0 a old ≡ roomed (length old) (sizeOf a)

@@ -50,14 +50,14 @@ pub fn ciphers() {
     let bits = TpmuSymKeyBits::Aes(128);
     let cfb = TpmuSymMode::Aes(TpmAlgId(0x0043));
     let unlisted = TpmAlgId(0x0002);
-    cipher(7, TpmAlgId::Aes, bits, cfb);
-    cipher(8, unlisted, TpmuSymKeyBits::Null, TpmuSymMode::Null);
-    cipher(9, TpmAlgId::Null, bits, TpmuSymMode::Null);
-    cipher(10, TpmAlgId::Null, TpmuSymKeyBits::Null, cfb);
-    cipher(11, TpmAlgId::Aes, bits, TpmuSymMode::Null);
-    cipher(12, TpmAlgId::Aes, bits, TpmuSymMode::Aes(unlisted));
+    cipher(9, TpmAlgId::Aes, bits, cfb);
+    cipher(10, unlisted, TpmuSymKeyBits::Null, TpmuSymMode::Null);
+    cipher(11, TpmAlgId::Null, bits, TpmuSymMode::Null);
+    cipher(12, TpmAlgId::Null, TpmuSymKeyBits::Null, cfb);
+    cipher(13, TpmAlgId::Aes, bits, TpmuSymMode::Null);
+    cipher(14, TpmAlgId::Aes, bits, TpmuSymMode::Aes(unlisted));
     cipher(
-        13,
+        15,
         TpmAlgId::Sha256,
         TpmuSymKeyBits::Null,
         TpmuSymMode::Null,

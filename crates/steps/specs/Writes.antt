@@ -26,5 +26,5 @@ pub record Writes (l : Layout) (ps : List Part) (src old : List ℕ) (r : Measur
   pub answer : measureAnswer r ≡ written 0 (lay l ps src 0) old
   -- the record's bytes and then what was there, or all that was there
   pub buffer : last ≡ filled 0 (lay l ps src 0) old
-  -- as of a measure
+  -- no record of the code has another shape than its layout, or a number that its field cannot hold
   pub shaped : Shaped l ps

@@ -119,7 +119,7 @@ module _ (src : List ℕ) where
     unfolding list
     list-tells m at = next-tells (Read src) (field 4 (countTo m) src at) _ (field-tells 4 (countTo m) at) (λ n. walk-tells n (at + 4))
 
--- by induction on the layout
+-- a reader of any layout, by induction on it: what it refuses is said as above
 read-tells : (l : Layout) (src : List ℕ) (at : ℕ) → Tells (Read src) (read l src at)
 unfolding read
 read-tells stop src at = found-tells (Read src) _
@@ -174,75 +174,75 @@ refused-list-says-what-it-had m i xs f p = list-whole-tells m i xs f p .that
 few-said : {xs : List ℕ} {f : Refusal} → Read xs f → Laid f
 few-said s = record { that = s .that .few; roomless = s .roomless }
 
-list-few : (m : ℕ) (i : Layout) (xs : List ℕ) → Tells Laid (whole m i xs)
-list-few m i xs f p = few-said (list-whole-tells m i xs f p)
+list-laid : (m : ℕ) (i : Layout) (xs : List ℕ) → Tells Laid (whole m i xs)
+list-laid m i xs f p = few-said (list-whole-tells m i xs f p)
 
 -- counted from further back it had what it had
-moved-few : {A : Type 0} (at : ℕ) (a : Ans A) → Tells Laid a → Tells Laid (moved at a)
-moved-few at (found x) h = found-tells Laid x
-moved-few at (refused g) h =
+moved-tells : {A : Type 0} (at : ℕ) (a : Ans A) → Tells Laid a → Tells Laid (moved at a)
+moved-tells at (found x) h = found-tells Laid x
+moved-tells at (refused g) h =
     let s = h g refl in
     refused-tells Laid _ (record { that = record { too-few = s .that .too-few; none = s .that .none }; roomless = s .roomless })
 
-cut-few : (src : List ℕ) (start len at : ℕ) → Tells Laid (cut src start len at)
+cut-tells : (src : List ℕ) (start len at : ℕ) → Tells Laid (cut src start len at)
 unfolding cut
-cut-few src start len at = when-tells Laid (leb (start + len) (length src)) _ _ (said other-few 6 refl refl refl)
+cut-tells src start len at = when-tells Laid (leb (start + len) (length src)) _ _ (said other-few 6 refl refl refl)
 
-spelt-few : (w : ℕ) (r : Rule) (n at : ℕ) → Tells Laid (spelt w r n at)
+spelt-tells : (w : ℕ) (r : Rule) (n at : ℕ) → Tells Laid (spelt w r n at)
 unfolding spelt
-spelt-few w r n at = when-tells Laid (allows r n && ltb n (256 ^ w)) _ _ (breach-said (λ f. other-few) r at n)
+spelt-tells w r n at = when-tells Laid (allows r n && ltb n (256 ^ w)) _ _ (breach-said (λ f. other-few) r at n)
 
-ahead-few : (a k : Ans (List ℕ)) → Tells Laid a → Tells Laid k → Tells Laid (ahead a k)
-ahead-few a k h g = next-tells Laid a _ h (λ xs. next-tells Laid k _ g (λ ys. found-tells Laid (xs ++ ys)))
+ahead-tells : (a k : Ans (List ℕ)) → Tells Laid a → Tells Laid k → Tells Laid (ahead a k)
+ahead-tells a k h g = next-tells Laid a _ h (λ xs. next-tells Laid k _ g (λ ys. found-tells Laid (xs ++ ys)))
 
 -- parts of another shape than the layout's, and else those that follow
 module _ (at : ℕ) where
-  odd-few : {A : Type 0} → Tells {A = A} Laid (odd at)
-  odd-few = refused-tells Laid _ (said other-few 5 refl refl refl)
+  odd-tells : {A : Type 0} → Tells {A = A} Laid (odd at)
+  odd-tells = refused-tells Laid _ (said other-few 5 refl refl refl)
 
-  end-few : (ps : List Part) → Tells {A = List ℕ} Laid (onEnd (odd at) ps (found []))
-  end-few [] = found-tells Laid []
-  end-few (p ∷ ps) = odd-few
+  end-tells : (ps : List Part) → Tells {A = List ℕ} Laid (onEnd (odd at) ps (found []))
+  end-tells [] = found-tells Laid []
+  end-tells (p ∷ ps) = odd-tells
 
-  number-few : (ps : List Part) (k : ℕ → List Part → Ans (List ℕ)) → ((n : ℕ) (qs : List Part) → Tells Laid (k n qs)) → Tells Laid (onNumber (odd at) ps k)
-  number-few [] k h = odd-few
-  number-few (num n ∷ ps) k h = h n ps
-  number-few (tag t ∷ ps) k h = odd-few
-  number-few (span start len ∷ ps) k h = odd-few
+  number-tells : (ps : List Part) (k : ℕ → List Part → Ans (List ℕ)) → ((n : ℕ) (qs : List Part) → Tells Laid (k n qs)) → Tells Laid (onNumber (odd at) ps k)
+  number-tells [] k h = odd-tells
+  number-tells (num n ∷ ps) k h = h n ps
+  number-tells (tag t ∷ ps) k h = odd-tells
+  number-tells (span start len ∷ ps) k h = odd-tells
 
-  arm-few : (ps : List Part) (k : ℕ → List Part → Ans (List ℕ)) → ((t : ℕ) (qs : List Part) → Tells Laid (k t qs)) → Tells Laid (onArm (odd at) ps k)
-  arm-few [] k h = odd-few
-  arm-few (num n ∷ ps) k h = odd-few
-  arm-few (tag t ∷ ps) k h = h t ps
-  arm-few (span start len ∷ ps) k h = odd-few
+  arm-tells : (ps : List Part) (k : ℕ → List Part → Ans (List ℕ)) → ((t : ℕ) (qs : List Part) → Tells Laid (k t qs)) → Tells Laid (onArm (odd at) ps k)
+  arm-tells [] k h = odd-tells
+  arm-tells (num n ∷ ps) k h = odd-tells
+  arm-tells (tag t ∷ ps) k h = h t ps
+  arm-tells (span start len ∷ ps) k h = odd-tells
 
-  span-few : (ps : List Part) (k : ℕ → ℕ → List Part → Ans (List ℕ)) → ((start len : ℕ) (qs : List Part) → Tells Laid (k start len qs)) → Tells Laid (onSpan (odd at) ps k)
-  span-few [] k h = odd-few
-  span-few (num n ∷ ps) k h = odd-few
-  span-few (tag t ∷ ps) k h = odd-few
-  span-few (span start len ∷ ps) k h = h start len ps
+  span-tells : (ps : List Part) (k : ℕ → ℕ → List Part → Ans (List ℕ)) → ((start len : ℕ) (qs : List Part) → Tells Laid (k start len qs)) → Tells Laid (onSpan (odd at) ps k)
+  span-tells [] k h = odd-tells
+  span-tells (num n ∷ ps) k h = odd-tells
+  span-tells (tag t ∷ ps) k h = odd-tells
+  span-tells (span start len ∷ ps) k h = h start len ps
 
--- by induction on the layout
+-- a writer of any layout, by induction on it
 lay-tells : (l : Layout) (ps : List Part) (src : List ℕ) (at : ℕ) → Tells Laid (lay l ps src at)
 unfolding lay
-lay-tells stop ps src at = end-few at ps
+lay-tells stop ps src at = end-tells at ps
 lay-tells (noArm v) ps src at = refused-tells Laid _ (said other-few 1 refl refl refl)
 lay-tells (arm v t l) ps src at =
-    arm-few at ps _ (λ u qs. either-tells Laid (eqb u t) _ _ (lay-tells l qs src at) (refused-tells Laid _ (said other-few 5 refl refl refl)))
+    arm-tells at ps _ (λ u qs. either-tells Laid (eqb u t) _ _ (lay-tells l qs src at) (refused-tells Laid _ (said other-few 5 refl refl refl)))
 lay-tells (number w r k) ps src at =
-    number-few at ps _ (λ n qs. ahead-few (spelt w r n at) _ (spelt-few w r n at) (lay-tells (k n) qs src (at + w)))
+    number-tells at ps _ (λ n qs. ahead-tells (spelt w r n at) _ (spelt-tells w r n at) (lay-tells (k n) qs src (at + w)))
 lay-tells (plain n l) ps src at =
-    span-few at ps _
-    (λ start len qs. either-tells Laid (eqb len n) _ _ (ahead-few (cut src start len at) _ (cut-few src start len at) (lay-tells l qs src (at + n))) (odd-few at))
+    span-tells at ps _
+    (λ start len qs. either-tells Laid (eqb len n) _ _ (ahead-tells (cut src start len at) _ (cut-tells src start len at) (lay-tells l qs src (at + n))) (odd-tells at))
 lay-tells (buffer w m l) ps src at =
-    span-few at ps _
-    (λ start len qs. next-tells Laid (cut src start len at) _ (cut-few src start len at)
-    (λ xs. ahead-few (spelt w (lengthTo m) len at) _ (spelt-few w (lengthTo m) len at)
-    (ahead-few (found xs) _ (found-tells Laid xs) (lay-tells l qs src (at + w + len)))))
+    span-tells at ps _
+    (λ start len qs. next-tells Laid (cut src start len at) _ (cut-tells src start len at)
+    (λ xs. ahead-tells (spelt w (lengthTo m) len at) _ (spelt-tells w (lengthTo m) len at)
+    (ahead-tells (found xs) _ (found-tells Laid xs) (lay-tells l qs src (at + w + len)))))
 lay-tells (counted m i l) ps src at =
-    span-few at ps _
-    (λ start len qs. next-tells Laid (cut src start len at) _ (cut-few src start len at)
-    (λ xs. ahead-few (moved at (whole m i xs)) _ (moved-few at (whole m i xs) (list-few m i xs)) (lay-tells l qs src (at + len))))
+    span-tells at ps _
+    (λ start len qs. next-tells Laid (cut src start len at) _ (cut-tells src start len at)
+    (λ xs. ahead-tells (moved at (whole m i xs)) _ (moved-tells at (whole m i xs) (list-laid m i xs)) (lay-tells l qs src (at + len))))
 
 -- a refused write had no bytes, unless it is Short, and then fewer than it needs
 pub refused-write-had-few : (l : Layout) (ps : List Part) (src : List ℕ) (at : ℕ) (f : Refusal) → lay l ps src at ≡ refused f → HadFew f
@@ -253,26 +253,26 @@ pub refused-write-is-roomless : (l : Layout) (ps : List Part) (src : List ℕ) (
 refused-write-is-roomless l ps src at f p = lay-tells l ps src at f p .roomless
 
 -- so had a refused item: it is refused as the list is, or there is none
-pick-few : (ps : List Part) (i asked : ℕ) (src : List ℕ) → Tells Laid (pickField ps i asked src)
-pick-few [] i asked src = refused-tells Laid _ (said other-few 8 refl refl refl)
-pick-few (num n ∷ ps) i asked src = pick-few ps i asked src
-pick-few (tag t ∷ ps) i asked src = pick-few ps i asked src
-pick-few (span start len ∷ ps) zero asked src = cut-few src start len 0
-pick-few (span start len ∷ ps) (suc i) asked src = pick-few ps i asked src
+pick-tells : (ps : List Part) (i asked : ℕ) (src : List ℕ) → Tells Laid (pickField ps i asked src)
+pick-tells [] i asked src = refused-tells Laid _ (said other-few 8 refl refl refl)
+pick-tells (num n ∷ ps) i asked src = pick-tells ps i asked src
+pick-tells (tag t ∷ ps) i asked src = pick-tells ps i asked src
+pick-tells (span start len ∷ ps) zero asked src = cut-tells src start len 0
+pick-tells (span start len ∷ ps) (suc i) asked src = pick-tells ps i asked src
 
-items-few : (item : Layout) (xs : List ℕ) (n i asked at : ℕ) → Tells Laid (pickItem (λ s a. read item s a) n i asked xs at)
-items-few item xs zero i asked at = refused-tells Laid _ (said other-few 8 refl refl refl)
-items-few item xs (suc n) zero asked at =
+items-tells : (item : Layout) (xs : List ℕ) (n i asked at : ℕ) → Tells Laid (pickItem (λ s a. read item s a) n i asked xs at)
+items-tells item xs zero i asked at = refused-tells Laid _ (said other-few 8 refl refl refl)
+items-tells item xs (suc n) zero asked at =
     next-tells Laid (read item xs at) _ (λ f p. few-said (read-tells item xs at f p)) (λ r. found-tells Laid _)
-items-few item xs (suc n) (suc i) asked at =
-    next-tells Laid (read item xs at) _ (λ f p. few-said (read-tells item xs at f p)) (λ r. items-few item xs n i asked (r .stops))
+items-tells item xs (suc n) (suc i) asked at =
+    next-tells Laid (read item xs at) _ (λ f p. few-said (read-tells item xs at f p)) (λ r. items-tells item xs n i asked (r .stops))
 
 item-tells : (m : ℕ) (item : Layout) (lists : List Part) (i : ℕ) (src : List ℕ) → Tells Laid (itemOf m item lists i src)
 unfolding itemOf
 item-tells m item lists i src =
-    next-tells Laid (pickField lists zero i src) _ (pick-few lists zero i src)
-    (λ xs. next-tells Laid (whole m item xs) _ (list-few m item xs)
-    (λ ys. items-few item ys (be (take 4 ys)) i i 4))
+    next-tells Laid (pickField lists zero i src) _ (pick-tells lists zero i src)
+    (λ xs. next-tells Laid (whole m item xs) _ (list-laid m item xs)
+    (λ ys. items-tells item ys (be (take 4 ys)) i i 4))
 
 pub refused-item-had-few : (m : ℕ) (item : Layout) (lists : List Part) (i : ℕ) (src : List ℕ) (f : Refusal) → itemOf m item lists i src ≡ refused f → HadFew f
 refused-item-had-few m item lists i src f p = item-tells m item lists i src f p .that
