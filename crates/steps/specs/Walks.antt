@@ -267,10 +267,12 @@ pub record Dues (v : ℕ) (c : Choice) (held : Bool) (a b : Walk) : Type 0 where
 
 -- ---- writing: measured first, and put only if the record is legal and there is room
 
+-- the walk that an answer leads to: one that puts from the buffer's start on, or one that is refused
 abbrev pub readyBy : Ans ℕ → Walk
 readyBy (found n) = putting 0
 readyBy (refused f) = refusing f
 
+-- the walk that what was measured leads to, with so much room
 unfoldable pub readyWalk : Ans ℕ → (room : ℕ) → Walk
 readyWalk a k = readyBy (roomed k a)
 

@@ -1,9 +1,6 @@
 -- It is judged. Assumes nothing.
-use mathlib.Core.Path.{refl}
 use Rattle.steps.proofs.Marshalled.{needs, measured}
 use Rattle.signatures.proofs.tpmt.TpmtSignature.measure.Tie as tie
 
 pub measure-spec : {M : Type 1} → Rattle.signatures.proofs.tpmt.TpmtSignature.measure.Statement.statement M
-measure-spec = tie.close (tie.spec
-    (search needs) (search needs) (search needs) (search needs)
-    (λ c. measured _ _ _ _ _ _ _ _ _ _ (c .before .before .before .before .judging .ensures) (c .before .before .walk .ensures) (c .answer .ensures) refl))
+measure-spec = tie.close (tie.spec (search needs) (search needs) (search needs) (search needs) (λ c. search measured))
