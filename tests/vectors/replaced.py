@@ -76,9 +76,15 @@ def every_arm_under_every_code(found):
 
 
 def arms_due(kind):
-    """The arms that the unions of a replaced selector must have held together in some case."""
-    arms = [tables.arms_of(union) for union in unions_of(kind)]
-    return list(product(*arms)) if kind in TWO_RECORDS else list(zip(*arms))
+    """The arms that the unions of a replaced selector must have held together in some case.
+
+    Those of two records are any; those of one were chosen by one selector.
+    """
+    unions = unions_of(kind)
+    if kind in TWO_RECORDS:
+        return list(product(*map(tables.arms_of, unions)))
+    selectors = tables.WHOLE_ARMS[unions[0]]
+    return [tuple(tables.arm_chosen(union, selector) for union in unions) for selector in selectors]
 
 
 def require_complete(made):

@@ -1,5 +1,6 @@
 """Codes tried one after another, in short records: as each union's selector, and where a code chooses nothing.
 
+The same numbers are tried where none is judged: as the count of Ecdaa, and behind a Xor cipher.
 These answers come from the tables alone: no decoded record has all of these codes.
 """
 
@@ -55,8 +56,10 @@ def built(kind, parts):
 ATTEST_FRONT = (('number', 4, tables.MAGIC),)
 ATTEST_MIDDLE = (buffer(tables.NAME), buffer(tables.DATA), *tables.CLOCK_INFO, number(8))
 PUBLIC_MIDDLE = (CODE, number(4), buffer(tables.DIGEST))
+UNIQUE = tables.ARMS['unique']
 SENSITIVE_MIDDLE = (buffer(tables.AUTH), buffer(tables.DIGEST))
-RSA, ECC = code(tables.RSA), code(tables.ECC)
+RSA, ECC, SYMCIPHER = code(tables.RSA), code(tables.ECC), code(tables.SYMCIPHER)
+XOR, ECDAA = code(tables.XOR), code(tables.ECDAA)
 COMMAND_AUDIT = (*ATTEST_FRONT, code(tables.COMMAND_AUDIT), *ATTEST_MIDDLE, number(8))
 QUOTE_ITEM = (*ATTEST_FRONT, code(tables.QUOTE), *ATTEST_MIDDLE, ('number', 4, 1))
 NO_BITS = (('number', 1, 0), ('bytes', 0, ''))
@@ -64,12 +67,15 @@ NO_BITS = (('number', 1, 0), ('bytes', 0, ''))
 SELECTORS = [
     *(Place(kind, (), (), (tables.UNION_OF_KIND[kind],)) for kind in range(1, 11)),
     Place(9, (code(tables.KEYEDHASH),), (), ('keyed hash',)),
-    Place(9, (code(tables.SYMCIPHER),), (), ('cipher',)),
+    Place(9, (SYMCIPHER,), (), ('cipher',)),
     Place(9, (RSA,), (), ('cipher',), (CODE, number(2), number(4))),
     Place(9, (RSA, CODE), (), ('asymmetric',), (number(2), number(4))),
+    Place(9, (RSA, XOR, CODE), (), ('asymmetric',), (number(2), number(4))),
     Place(9, (ECC,), (), ('cipher',), (CODE, CODE, CODE)),
     Place(9, (ECC, CODE), (), ('asymmetric',), (CODE, CODE)),
+    Place(9, (ECC, XOR, CODE), (), ('asymmetric',), (CODE, CODE)),
     Place(9, (ECC, CODE, CODE, CODE), (), ('kdf',)),
+    Place(9, (ECC, CODE, ECDAA, CODE, number(2), CODE), (), ('kdf',)),
     Place(10, (code(tables.HMAC),), (), ('digest',)),
     Place(11, (), PUBLIC_MIDDLE, ('parameters', 'unique')),
     Place(12, (), SENSITIVE_MIDDLE, ('sensitive',)),
@@ -78,17 +84,18 @@ SELECTORS = [
 
 PLAIN_CODES = [
     Place(2, (code(tables.AES), number(2))),
-    Place(2, (code(tables.XOR),), behind=(CODE,)),
-    Place(2, (code(tables.XOR), CODE)),
+    Place(2, (XOR,)),
     Place(3, (code(tables.MGF1),)),
     Place(4, (code(tables.HMAC),)),
-    Place(4, (code(tables.XOR),), behind=(CODE,)),
-    Place(4, (code(tables.XOR), CODE)),
+    Place(4, (XOR,), behind=(CODE,)),
+    Place(4, (XOR, CODE)),
     Place(5, (code(tables.RSASSA),)),
     Place(6, (code(tables.OAEP),)),
     Place(7, (code(tables.ECDSA),)),
     Place(8, (code(tables.OAEP),)),
+    *(Place(kind, (ECDAA,), behind=(number(2),)) for kind in (5, 6, 7, 8)),
     Place(9, (ECC, CODE, CODE), behind=(CODE,), listed=tables.CURVES),
+    Place(9, (ECC, CODE, ECDAA, CODE, number(2)), behind=(CODE,), listed=tables.CURVES),
     Place(10, (code(tables.RSAPSS),), behind=(buffer(tables.RSA_PUBLIC),)),
     Place(10, (code(tables.ECDSA),), behind=(buffer(tables.ECC_PARAMETER), buffer(tables.ECC_PARAMETER))),
     Place(11, (code(NULL),), behind=(number(4), buffer(tables.DIGEST))),
@@ -96,6 +103,18 @@ PLAIN_CODES = [
     Place(13, QUOTE_ITEM, behind=(*NO_BITS, buffer(tables.DIGEST))),
     Place(14, (('number', 4, 1),), behind=NO_BITS),
 ]
+
+# Where Ecdaa's count is tried.
+COUNTS = [
+    *(Place(kind, (ECDAA, CODE)) for kind in (5, 6, 7, 8)),
+    Place(9, (RSA, CODE, ECDAA, CODE), behind=(number(2), number(4))),
+    Place(9, (ECC, CODE, ECDAA, CODE), behind=(CODE, CODE)),
+    Place(11, (RSA, *PUBLIC_MIDDLE, CODE, ECDAA, CODE), behind=(number(2), number(4), *UNIQUE[tables.RSA])),
+    Place(11, (ECC, *PUBLIC_MIDDLE, CODE, ECDAA, CODE), behind=(CODE, CODE, *UNIQUE[tables.ECC])),
+]
+
+# Where a Xor cipher ends the record.
+XOR_LAST = [Place(2, (XOR, CODE)), Place(9, (SYMCIPHER, XOR, CODE))]
 
 
 def arms_chosen(place, number_tried):
@@ -124,10 +143,24 @@ def tried(place, number_tried):
             yield ('code tried, cut', *damage.cut_at(record, due)[1:])
 
 
+def count_tried(place, number_tried):
+    """A count is any number, listed as a code or not: read, and refused only when its last byte is cut away."""
+    due = len(built(place.kind, place.ahead).data)
+    record = built(place.kind, (*place.ahead, ('number', 2, number_tried), *place.behind))
+    yield damage.whole('count of Ecdaa tried, read', record)
+    yield ('count of Ecdaa tried, cut', *damage.cut_at(record, due + 1)[1:])
+
+
+def behind_xor(place, number_tried):
+    """A Xor cipher has no mode: whatever two bytes follow are a tail."""
+    yield damage.whole('two bytes behind Xor', built(place.kind, place.ahead), number_tried.to_bytes(2, 'big'))
+
+
 def sweeps():
-    for place in SELECTORS + PLAIN_CODES:
-        for number_tried in place.tried:
-            yield from tried(place, number_tried)
+    for places, make in ((SELECTORS + PLAIN_CODES, tried), (COUNTS, count_tried), (XOR_LAST, behind_xor)):
+        for place in places:
+            for number_tried in place.tried:
+                yield from make(place, number_tried)
 
 
 def every_arm():

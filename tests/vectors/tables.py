@@ -77,7 +77,7 @@ ARMS = {
     },
     'cipher': {
         **each((number(2), CODE), AES, SM4, CAMELLIA),
-        **each((CODE, CODE), XOR),
+        **each((CODE,), XOR),
         **each(NOTHING, NULL),
     },
     'kdf': {
@@ -90,11 +90,13 @@ ARMS = {
         **each(NOTHING, NULL),
     },
     'signing': {
-        **each((CODE,), HMAC, RSASSA, RSAPSS, ECDSA, ECDAA, SM2, ECSCHNORR),
+        **each((CODE,), HMAC, RSASSA, RSAPSS, ECDSA, SM2, ECSCHNORR),
+        **each((CODE, number(2)), ECDAA),
         **each(NOTHING, NULL),
     },
     'asymmetric': {
-        **each((CODE,), RSASSA, RSAPSS, ECDSA, ECDAA, SM2, ECSCHNORR, OAEP, ECDH, ECMQV),
+        **each((CODE,), RSASSA, RSAPSS, ECDSA, SM2, ECSCHNORR, OAEP, ECDH, ECMQV),
+        **each((CODE, number(2)), ECDAA),
         **each(NOTHING, RSAES, NULL),
     },
     # As they begin, and whole where every scheme and cipher in them is Null.
@@ -175,8 +177,9 @@ LISTED = {'code': ALGORITHMS, 'curve': CURVES, 'type': ATTESTATION_TYPES}
 # fields are those of another. A digest's arm is told by its length.
 SHARED_ARMS = {
     'digest': [(SHA256, SM3_256, SHA3_256, SHAKE256_256), (SHA384, SHA3_384), (SHA512, SHA3_512, SHAKE256_512)],
-    'signing': [(RSASSA, RSAPSS, ECDSA, ECDAA, SM2, ECSCHNORR)],
-    'asymmetric': [(RSASSA, RSAPSS, ECDSA, ECDAA, SM2, ECSCHNORR, OAEP, ECDH, ECMQV), (RSAES, NULL)],
+    'mode': [(XOR, NULL)],
+    'signing': [(RSASSA, RSAPSS, ECDSA, SM2, ECSCHNORR)],
+    'asymmetric': [(RSASSA, RSAPSS, ECDSA, SM2, ECSCHNORR, OAEP, ECDH, ECMQV), (RSAES, NULL)],
 }
 
 

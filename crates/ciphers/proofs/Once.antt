@@ -51,14 +51,12 @@ tpmu-sym-mode-once =
     (holds aes TpmuSymMode.Aes tpm-alg-id-once
     ∷ holds sm4 TpmuSymMode.Sm4 tpm-alg-id-once
     ∷ holds camellia TpmuSymMode.Camellia tpm-alg-id-once
-    ∷ holds xor TpmuSymMode.Xor tpm-alg-id-once
     ∷ bare null TpmuSymMode.Null
     ∷ [])
     (λ u qs. elim u [
       | TpmuSymMode.Aes x ↦ rw (tpm-alg-id-once .back x qs)
       | TpmuSymMode.Sm4 x ↦ rw (tpm-alg-id-once .back x qs)
       | TpmuSymMode.Camellia x ↦ rw (tpm-alg-id-once .back x qs)
-      | TpmuSymMode.Xor x ↦ rw (tpm-alg-id-once .back x qs)
       | TpmuSymMode.Null ↦ refl
     ])
 

@@ -27,7 +27,6 @@ abbrev pub tpmuSymModeParts : TpmuSymMode → List Part
 tpmuSymModeParts (TpmuSymMode.Aes m) = tag aes ∷ num (m .0) ∷ []
 tpmuSymModeParts (TpmuSymMode.Sm4 m) = tag sm4 ∷ num (m .0) ∷ []
 tpmuSymModeParts (TpmuSymMode.Camellia m) = tag camellia ∷ num (m .0) ∷ []
-tpmuSymModeParts (TpmuSymMode.Xor m) = tag xor ∷ num (m .0) ∷ []
 tpmuSymModeParts TpmuSymMode.Null = tag null ∷ []
 
 -- ---- kinds 1 and 2

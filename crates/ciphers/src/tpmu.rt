@@ -41,7 +41,6 @@ pub enum TpmuSymMode {
     Aes(TpmAlgId),
     Sm4(TpmAlgId),
     Camellia(TpmAlgId),
-    Xor(TpmAlgId),
     Null,
 }
 
@@ -175,11 +174,7 @@ impl TpmuSymMode {
                 TpmAlgIdRead::Found(x, e) => TpmuSymModeRead::Found(Self::Camellia(x), e),
                 TpmAlgIdRead::No(f) => TpmuSymModeRead::No(f),
             },
-            registry::XOR => match TpmAlgId::unmarshal(s, at) {
-                TpmAlgIdRead::Found(x, e) => TpmuSymModeRead::Found(Self::Xor(x), e),
-                TpmAlgIdRead::No(f) => TpmuSymModeRead::No(f),
-            },
-            registry::NULL => TpmuSymModeRead::Found(Self::Null, at),
+            registry::XOR | registry::NULL => TpmuSymModeRead::Found(Self::Null, at),
             _ => TpmuSymModeRead::No(Refusal::no_arm(at, wide(v))),
         }
     }
@@ -187,13 +182,12 @@ impl TpmuSymMode {
     pub fn matches_tag(self, tag: TpmAlgId) -> bool
         ensures { λ r. ⌜ r ≡ isArm (tpmuSymModeArm (tag .0)) (held (tpmuSymModeParts self)) ⌝ }
     {
-        let v = tag.0;
+        let chosen = sym_mode_arm(tag);
         match self {
-            Self::Aes(_) => v == registry::AES,
-            Self::Sm4(_) => v == registry::SM4,
-            Self::Camellia(_) => v == registry::CAMELLIA,
-            Self::Xor(_) => v == registry::XOR,
-            Self::Null => v == registry::NULL,
+            Self::Aes(_) => chosen.is(registry::AES),
+            Self::Sm4(_) => chosen.is(registry::SM4),
+            Self::Camellia(_) => chosen.is(registry::CAMELLIA),
+            Self::Null => chosen.is(registry::NULL),
         }
     }
 
@@ -205,7 +199,6 @@ impl TpmuSymMode {
             Self::Aes(x) => v.algorithm(x, out),
             Self::Sm4(x) => v.algorithm(x, out),
             Self::Camellia(x) => v.algorithm(x, out),
-            Self::Xor(x) => v.algorithm(x, out),
             Self::Null => v,
         }
     }

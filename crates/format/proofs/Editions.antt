@@ -10,13 +10,13 @@ use Rattle.wire.specs.Editions.{LaterRule, rule-same, rule-longer, Later, stop-
 use Rattle.wire.proofs.Order.{later-refl, later-then}
 use Rattle.wire.proofs.Rows.{more-rows, row-later, rows-behind, union-later}
 use Rattle.codes.specs.Codes.{alg, curve, attestation}
-use Rattle.format.specs.Kinds.{tpmuHaTable, tpmuHaArm, tpmuHa, tpmuAsymSchemeArm, tpmuAsymScheme, tpmuSigSchemeArm, tpmuSigScheme, tpmuKeyedhashSchemeArm, tpmuKeyedhashScheme, tpmuKdfSchemeArm, tpmuKdfScheme, tpmuSymKeyBitsArm, tpmuSymKeyBits, tpmuSymModeArm, tpmuSymMode, tpmuPublicParmsArm, tpmuPublicParms, tpmuPublicIdTable, tpmuPublicIdArm, tpmuPublicId, tpmuSensitiveCompositeTable, tpmuSensitiveCompositeArm, tpmuSensitiveComposite, tpmuSignatureArm, tpmuSignature, tpmuAttestArm, tpmuAttest, tpmsSchemeHash, tpmsSchemeXor, tpmtHa, tpmtSymDef, tpmtKdfScheme, tpmtKeyedhashScheme, tpmtSigScheme, tpmtAsymScheme, tpmsRsaParms, tpmsEccParms, tpmsSignatureRsa, tpmsSignatureEcc, tpmtPublicParms, tpmtSignature, tpmtPublic, tpmtSensitive, tpmsPcrSelection, tpmlPcrSelection, tpmsClockInfo, tpmsQuoteInfo, tpmsCommandAuditInfo, tpmsAttest, kinds, layoutOf}
+use Rattle.format.specs.Kinds.{tpmuHaTable, tpmuHaArm, tpmuHa, tpmuAsymSchemeArm, tpmuAsymScheme, tpmuSigSchemeArm, tpmuSigScheme, tpmuKeyedhashSchemeArm, tpmuKeyedhashScheme, tpmuKdfSchemeArm, tpmuKdfScheme, tpmuSymKeyBitsArm, tpmuSymKeyBits, tpmuSymModeArm, tpmuSymMode, tpmuPublicParmsArm, tpmuPublicParms, tpmuPublicIdTable, tpmuPublicIdArm, tpmuPublicId, tpmuSensitiveCompositeTable, tpmuSensitiveCompositeArm, tpmuSensitiveComposite, tpmuSignatureArm, tpmuSignature, tpmuAttestArm, tpmuAttest, tpmsSchemeHash, tpmsSchemeEcdaa, tpmsSchemeXor, tpmtHa, tpmtSymDef, tpmtKdfScheme, tpmtKeyedhashScheme, tpmtSigScheme, tpmtAsymScheme, tpmsRsaParms, tpmsEccParms, tpmsSignatureRsa, tpmsSignatureEcc, tpmtPublicParms, tpmtSignature, tpmtPublic, tpmtSensitive, tpmsPcrSelection, tpmlPcrSelection, tpmsClockInfo, tpmsQuoteInfo, tpmsCommandAuditInfo, tpmsAttest, kinds, layoutOf}
 use Rattle.format.specs.Editions.{Edition, ours, Extends}
-use Rattle.format.specs.EditionKinds.{algIn, curveIn, attestationIn, tpmuHaIn, tpmuAsymSchemeIn, tpmuSigSchemeIn, tpmuKeyedhashSchemeIn, tpmuKdfSchemeIn, tpmuSymKeyBitsIn, tpmuSymModeIn, tpmuPublicParmsIn, tpmuPublicIdIn, tpmuSensitiveCompositeIn, tpmuSignatureIn, tpmuAttestIn, tpmsSchemeHashIn, tpmsSchemeXorIn, tpmtHaIn, tpmtSymDefIn, tpmtKdfSchemeIn, tpmtKeyedhashSchemeIn, tpmtSigSchemeIn, tpmtAsymSchemeIn, tpmsRsaParmsIn, tpmsEccParmsIn, tpmsSignatureRsaIn, tpmsSignatureEccIn, tpmtPublicParmsIn, tpmtSignatureIn, tpmtPublicIn, tpmtSensitiveIn, tpmsPcrSelectionIn, tpmlPcrSelectionIn, tpmsQuoteInfoIn, tpmsCommandAuditInfoIn, tpmsAttestIn, kindsIn, layoutIn}
+use Rattle.format.specs.EditionKinds.{algIn, curveIn, attestationIn, tpmuHaIn, tpmuAsymSchemeIn, tpmuSigSchemeIn, tpmuKeyedhashSchemeIn, tpmuKdfSchemeIn, tpmuSymKeyBitsIn, tpmuSymModeIn, tpmuPublicParmsIn, tpmuPublicIdIn, tpmuSensitiveCompositeIn, tpmuSignatureIn, tpmuAttestIn, tpmsSchemeHashIn, tpmsSchemeEcdaaIn, tpmsSchemeXorIn, tpmtHaIn, tpmtSymDefIn, tpmtKdfSchemeIn, tpmtKeyedhashSchemeIn, tpmtSigSchemeIn, tpmtAsymSchemeIn, tpmsRsaParmsIn, tpmsEccParmsIn, tpmsSignatureRsaIn, tpmsSignatureEccIn, tpmtPublicParmsIn, tpmtSignatureIn, tpmtPublicIn, tpmtSensitiveIn, tpmsPcrSelectionIn, tpmlPcrSelectionIn, tpmsQuoteInfoIn, tpmsCommandAuditInfoIn, tpmsAttestIn, kindsIn, layoutIn}
 
 -- our own edition makes our kinds
 pub ours-makes-the-kinds : kindsIn ours ≡ kinds
-unfolding kindsIn kinds tpmuHaIn tpmuAsymSchemeIn tpmuSigSchemeIn tpmuKeyedhashSchemeIn tpmuKdfSchemeIn tpmuSymKeyBitsIn tpmuSymModeIn tpmuPublicParmsIn tpmuPublicIdIn tpmuSensitiveCompositeIn tpmuSignatureIn tpmuAttestIn tpmsSchemeHashIn tpmsSchemeXorIn tpmtHaIn tpmtSymDefIn tpmtKdfSchemeIn tpmtKeyedhashSchemeIn tpmtSigSchemeIn tpmtAsymSchemeIn tpmsRsaParmsIn tpmsEccParmsIn tpmsSignatureRsaIn tpmsSignatureEccIn tpmtPublicParmsIn tpmtSignatureIn tpmtPublicIn tpmtSensitiveIn tpmsPcrSelectionIn tpmlPcrSelectionIn tpmsQuoteInfoIn tpmsCommandAuditInfoIn tpmsAttestIn tpmuHaArm tpmuHa tpmuAsymSchemeArm tpmuAsymScheme tpmuSigSchemeArm tpmuSigScheme tpmuKeyedhashSchemeArm tpmuKeyedhashScheme tpmuKdfSchemeArm tpmuKdfScheme tpmuSymKeyBitsArm tpmuSymKeyBits tpmuSymModeArm tpmuSymMode tpmuPublicParmsArm tpmuPublicParms tpmuPublicIdArm tpmuPublicId tpmuSensitiveCompositeArm tpmuSensitiveComposite tpmuSignatureArm tpmuSignature tpmuAttestArm tpmuAttest tpmsSchemeHash tpmsSchemeXor tpmtHa tpmtSymDef tpmtKdfScheme tpmtKeyedhashScheme tpmtSigScheme tpmtAsymScheme tpmsRsaParms tpmsEccParms tpmsSignatureRsa tpmsSignatureEcc tpmtPublicParms tpmtSignature tpmtPublic tpmtSensitive tpmsPcrSelection tpmlPcrSelection tpmsQuoteInfo tpmsCommandAuditInfo tpmsAttest
+unfolding kindsIn kinds tpmuHaIn tpmuAsymSchemeIn tpmuSigSchemeIn tpmuKeyedhashSchemeIn tpmuKdfSchemeIn tpmuSymKeyBitsIn tpmuSymModeIn tpmuPublicParmsIn tpmuPublicIdIn tpmuSensitiveCompositeIn tpmuSignatureIn tpmuAttestIn tpmsSchemeHashIn tpmsSchemeEcdaaIn tpmsSchemeXorIn tpmtHaIn tpmtSymDefIn tpmtKdfSchemeIn tpmtKeyedhashSchemeIn tpmtSigSchemeIn tpmtAsymSchemeIn tpmsRsaParmsIn tpmsEccParmsIn tpmsSignatureRsaIn tpmsSignatureEccIn tpmtPublicParmsIn tpmtSignatureIn tpmtPublicIn tpmtSensitiveIn tpmsPcrSelectionIn tpmlPcrSelectionIn tpmsQuoteInfoIn tpmsCommandAuditInfoIn tpmsAttestIn tpmuHaArm tpmuHa tpmuAsymSchemeArm tpmuAsymScheme tpmuSigSchemeArm tpmuSigScheme tpmuKeyedhashSchemeArm tpmuKeyedhashScheme tpmuKdfSchemeArm tpmuKdfScheme tpmuSymKeyBitsArm tpmuSymKeyBits tpmuSymModeArm tpmuSymMode tpmuPublicParmsArm tpmuPublicParms tpmuPublicIdArm tpmuPublicId tpmuSensitiveCompositeArm tpmuSensitiveComposite tpmuSignatureArm tpmuSignature tpmuAttestArm tpmuAttest tpmsSchemeHash tpmsSchemeEcdaa tpmsSchemeXor tpmtHa tpmtSymDef tpmtKdfScheme tpmtKeyedhashScheme tpmtSigScheme tpmtAsymScheme tpmsRsaParms tpmsEccParms tpmsSignatureRsa tpmsSignatureEcc tpmtPublicParms tpmtSignature tpmtPublic tpmtSensitive tpmsPcrSelection tpmlPcrSelection tpmsQuoteInfo tpmsCommandAuditInfo tpmsAttest
 ours-makes-the-kinds = refl
 
 -- two lists of layouts, one by one: the second has a later one
@@ -55,6 +55,10 @@ module _ {e : Edition} (x : Extends e) where
   unfolding tpmsSchemeHash tpmsSchemeHashIn
   scheme-hash = by-alg (λ n. stop-same)
 
+  scheme-ecdaa : Later tpmsSchemeEcdaa (tpmsSchemeEcdaaIn e)
+  unfolding tpmsSchemeEcdaa tpmsSchemeEcdaaIn
+  scheme-ecdaa = by-alg (λ n. later-refl _)
+
   scheme-xor : Later tpmsSchemeXor (tpmsSchemeXorIn e)
   unfolding tpmsSchemeXor tpmsSchemeXorIn
   scheme-xor = by-alg (λ n. by-alg (λ m. stop-same))
@@ -70,7 +74,7 @@ module _ {e : Edition} (x : Extends e) where
       let bits : Later (number 2 free (λ n. stop)) (number 2 free (λ n. stop)) = later-refl _ in
       by-alg (λ v. later-then
       (union-later (row-later bits (row-later bits (row-later bits (row-later code (row-later stop-same (more-rows (e .tpmuSymKeyBits))))))) v)
-      (union-later (row-later code (row-later code (row-later code (row-later code (row-later stop-same (more-rows (e .tpmuSymMode))))))) v))
+      (union-later (row-later code (row-later code (row-later code (row-later stop-same (row-later stop-same (more-rows (e .tpmuSymMode))))))) v))
 
   kdf-scheme : Later tpmtKdfScheme (tpmtKdfSchemeIn e)
   unfolding tpmtKdfScheme tpmtKdfSchemeIn tpmuKdfScheme tpmuKdfSchemeArm tpmuKdfSchemeIn
@@ -86,14 +90,14 @@ module _ {e : Edition} (x : Extends e) where
   unfolding tpmtSigScheme tpmtSigSchemeIn tpmuSigScheme tpmuSigSchemeArm tpmuSigSchemeIn
   sig-scheme =
       let h = scheme-hash in
-      by-alg (union-later (row-later h (row-later h (row-later h (row-later h (row-later h (row-later h (row-later h (row-later stop-same (more-rows (e .tpmuSigScheme)))))))))))
+      by-alg (union-later (row-later h (row-later h (row-later h (row-later h (row-later scheme-ecdaa (row-later h (row-later h (row-later stop-same (more-rows (e .tpmuSigScheme)))))))))))
 
   asym-scheme : Later tpmtAsymScheme (tpmtAsymSchemeIn e)
   unfolding tpmtAsymScheme tpmtAsymSchemeIn tpmuAsymScheme tpmuAsymSchemeArm tpmuAsymSchemeIn
   asym-scheme =
       let h = scheme-hash in
       by-alg (union-later (row-later stop-same (row-later stop-same
-      (row-later h (row-later h (row-later h (row-later h (row-later h (row-later h (row-later h (row-later h (row-later h (more-rows (e .tpmuAsymScheme))))))))))))))
+      (row-later h (row-later h (row-later h (row-later scheme-ecdaa (row-later h (row-later h (row-later h (row-later h (row-later h (more-rows (e .tpmuAsymScheme))))))))))))))
 
   -- ---- keys
 

@@ -14,7 +14,7 @@ use Rattle.wire.specs.Unions.{Row, bodyOf, union}
 use Rattle.wire.proofs.Sizes.{stop-most, no-arm-most, arm-most, number-most, plain-most, buffer-most, then-most, most-wider, stop-reaches, arm-reaches, number-reaches, plain-reaches, buffer-reaches, then-reaches}
 use Rattle.format.specs.declared.list.ListOf.the-variants.{PcrSelection}
 use Rattle.codes.specs.Codes.{algorithms, attestations, isAlgorithm, isAttestation, alg, curve, attestation, yesNo, magic}
-use Rattle.format.specs.Kinds.{tpmuHaTable, tpmuAsymSchemeTable, tpmuSigSchemeTable, tpmuKeyedhashSchemeTable, tpmuKdfSchemeTable, tpmuSymKeyBitsTable, tpmuSymModeTable, tpmuPublicParmsTable, tpmuPublicIdTable, tpmuSensitiveCompositeTable, tpmuSignatureTable, tpmuAttestTable, tpmuHaArm, tpmuAsymSchemeArm, tpmuSigSchemeArm, tpmuKeyedhashSchemeArm, tpmuKdfSchemeArm, tpmuSymKeyBitsArm, tpmuSymModeArm, tpmuPublicParmsArm, tpmuPublicIdArm, tpmuSensitiveCompositeArm, tpmuSignatureArm, tpmuAttestArm, tpmsSchemeHash, tpmsSchemeXor, tpmuHa, tpmuAsymScheme, tpmuSigScheme, tpmuKeyedhashScheme, tpmuKdfScheme, tpmuSymKeyBits, tpmuSymMode, tpmuPublicParms, tpmuPublicId, tpmuSensitiveComposite, tpmuSignature, tpmuAttest, tpmtHa, tpmtSymDef, tpmtKdfScheme, tpmtKeyedhashScheme, tpmtSigScheme, tpmtAsymScheme, tpmsRsaParms, tpmsEccParms, tpmsEccPoint, tpmsSignatureRsa, tpmsSignatureEcc, tpmtPublicParms, tpmtSignature, tpmtPublic, tpmtSensitive, tpmlPcrSelection, tpmsClockInfo, tpmsCertifyInfo, tpmsCreationInfo, tpmsQuoteInfo, tpmsCommandAuditInfo, tpmsSessionAuditInfo, tpmsTimeInfo, tpmsTimeAttestInfo, tpmsNvCertifyInfo, tpmsNvDigestCertifyInfo, tpmsAttest, kinds, layoutOf}
+use Rattle.format.specs.Kinds.{tpmuHaTable, tpmuAsymSchemeTable, tpmuSigSchemeTable, tpmuKeyedhashSchemeTable, tpmuKdfSchemeTable, tpmuSymKeyBitsTable, tpmuSymModeTable, tpmuPublicParmsTable, tpmuPublicIdTable, tpmuSensitiveCompositeTable, tpmuSignatureTable, tpmuAttestTable, tpmuHaArm, tpmuAsymSchemeArm, tpmuSigSchemeArm, tpmuKeyedhashSchemeArm, tpmuKdfSchemeArm, tpmuSymKeyBitsArm, tpmuSymModeArm, tpmuPublicParmsArm, tpmuPublicIdArm, tpmuSensitiveCompositeArm, tpmuSignatureArm, tpmuAttestArm, tpmsSchemeHash, tpmsSchemeEcdaa, tpmsSchemeXor, tpmuHa, tpmuAsymScheme, tpmuSigScheme, tpmuKeyedhashScheme, tpmuKdfScheme, tpmuSymKeyBits, tpmuSymMode, tpmuPublicParms, tpmuPublicId, tpmuSensitiveComposite, tpmuSignature, tpmuAttest, tpmtHa, tpmtSymDef, tpmtKdfScheme, tpmtKeyedhashScheme, tpmtSigScheme, tpmtAsymScheme, tpmsRsaParms, tpmsEccParms, tpmsEccPoint, tpmsSignatureRsa, tpmsSignatureEcc, tpmtPublicParms, tpmtSignature, tpmtPublic, tpmtSensitive, tpmlPcrSelection, tpmsClockInfo, tpmsCertifyInfo, tpmsCreationInfo, tpmsQuoteInfo, tpmsCommandAuditInfo, tpmsSessionAuditInfo, tpmsTimeInfo, tpmsTimeAttestInfo, tpmsNvCertifyInfo, tpmsNvDigestCertifyInfo, tpmsAttest, kinds, layoutOf}
 use Rattle.format.specs.Sizes.{greatest, AllGreatest}
 use Rattle.format.proofs.Tables.{_&_}
 use Rattle.format.proofs.Lists.{list-greatest}
@@ -77,20 +77,28 @@ hash-most : AtMost tpmsSchemeHash 2
 unfolding tpmsSchemeHash
 hash-most = one-most 2 alg
 
-asym-most : AtMost tpmtAsymScheme 4
-unfolding tpmtAsymScheme tpmuAsymScheme
-asym-most = follows 2 2 alg (λ v. union-most 2 tpmuAsymSchemeTable rows (tpmuAsymSchemeArm v) v)
-  where
-    rows : RowsMost tpmuAsymSchemeTable 2
-    rows = none-most & none-most
-        & hash-most & hash-most & hash-most & hash-most & hash-most & hash-most & hash-most & hash-most & hash-most & tt
+-- a code and a count
+ecdaa-most : AtMost tpmsSchemeEcdaa 4
+unfolding tpmsSchemeEcdaa
+ecdaa-most = follows 2 2 alg (λ n. one-most 2 free)
 
-sig-most : AtMost tpmtSigScheme 4
-unfolding tpmtSigScheme tpmuSigScheme
-sig-most = follows 2 2 alg (λ v. union-most 2 tpmuSigSchemeTable rows (tpmuSigSchemeArm v) v)
+asym-most : AtMost tpmtAsymScheme 6
+unfolding tpmtAsymScheme tpmuAsymScheme
+asym-most = follows 2 4 alg (λ v. union-most 4 tpmuAsymSchemeTable rows (tpmuAsymSchemeArm v) v)
   where
-    rows : RowsMost tpmuSigSchemeTable 2
-    rows = hash-most & hash-most & hash-most & hash-most & hash-most & hash-most & hash-most & none-most & tt
+    rows : RowsMost tpmuAsymSchemeTable 4
+    rows =
+        let h : AtMost tpmsSchemeHash 4 = most-wider (omega arith) hash-most in
+        none-most & none-most & h & h & h & ecdaa-most & h & h & h & h & h & tt
+
+sig-most : AtMost tpmtSigScheme 6
+unfolding tpmtSigScheme tpmuSigScheme
+sig-most = follows 2 4 alg (λ v. union-most 4 tpmuSigSchemeTable rows (tpmuSigSchemeArm v) v)
+  where
+    rows : RowsMost tpmuSigSchemeTable 4
+    rows =
+        let h : AtMost tpmsSchemeHash 4 = most-wider (omega arith) hash-most in
+        h & h & h & h & ecdaa-most & h & h & none-most & tt
 
 keyedhash-most : AtMost tpmtKeyedhashScheme 6
 unfolding tpmtKeyedhashScheme tpmuKeyedhashScheme tpmsSchemeXor
@@ -112,25 +120,25 @@ key-bits-most v = union-most 2 tpmuSymKeyBitsTable (one-most 2 free & one-most 2
 
 mode-most : (v : ℕ) → AtMost (tpmuSymMode v) 2
 unfolding tpmuSymMode
-mode-most v = union-most 2 tpmuSymModeTable (one-most 2 alg & one-most 2 alg & one-most 2 alg & one-most 2 alg & none-most & tt) (tpmuSymModeArm v) v
+mode-most v = union-most 2 tpmuSymModeTable (one-most 2 alg & one-most 2 alg & one-most 2 alg & none-most & none-most & tt) (tpmuSymModeArm v) v
 
 sym-def-most : AtMost tpmtSymDef 6
 unfolding tpmtSymDef
 sym-def-most = follows 2 4 alg (λ v. then-most _ _ 2 2 (key-bits-most v) (mode-most v))
 
-rsa-parms-most : AtMost tpmsRsaParms 16
+rsa-parms-most : AtMost tpmsRsaParms 18
 unfolding tpmsRsaParms
-rsa-parms-most = then-most _ _ 6 10 sym-def-most (then-most _ _ 4 6 asym-most (follows 2 4 free (λ n. one-most 4 free)))
+rsa-parms-most = then-most _ _ 6 12 sym-def-most (then-most _ _ 6 6 asym-most (follows 2 4 free (λ n. one-most 4 free)))
 
-ecc-parms-most : AtMost tpmsEccParms 16
+ecc-parms-most : AtMost tpmsEccParms 18
 unfolding tpmsEccParms
-ecc-parms-most = then-most _ _ 6 10 sym-def-most (then-most _ _ 4 6 asym-most (follows 2 4 curve (λ n. kdf-most)))
+ecc-parms-most = then-most _ _ 6 12 sym-def-most (then-most _ _ 6 6 asym-most (follows 2 4 curve (λ n. kdf-most)))
 
-parms-by-most : (v : ℕ) → AtMost (tpmuPublicParms v) 16
+parms-by-most : (v : ℕ) → AtMost (tpmuPublicParms v) 18
 unfolding tpmuPublicParms
-parms-by-most v = union-most 16 tpmuPublicParmsTable rows (tpmuPublicParmsArm v) v
+parms-by-most v = union-most 18 tpmuPublicParmsTable rows (tpmuPublicParmsArm v) v
   where
-    rows : RowsMost tpmuPublicParmsTable 16
+    rows : RowsMost tpmuPublicParmsTable 18
     rows = most-wider (omega arith) keyedhash-most & most-wider (omega arith) sym-def-most & rsa-parms-most & ecc-parms-most & none-most & tt
 
 unique-by-most : (v : ℕ) → AtMost (tpmuPublicId v) 514
@@ -176,18 +184,18 @@ signature-by-most v = union-most 516 tpmuSignatureTable rows (tpmuSignatureArm v
         & most-wider (omega arith) ha-most
         & none-most & tt
 
-public-parms-most : AtMost tpmtPublicParms 18
+public-parms-most : AtMost tpmtPublicParms 20
 unfolding tpmtPublicParms
-public-parms-most = follows 2 16 alg parms-by-most
+public-parms-most = follows 2 18 alg parms-by-most
 
 signature-most : AtMost tpmtSignature 518
 unfolding tpmtSignature
 signature-most = follows 2 516 alg signature-by-most
 
-public-area-most : AtMost tpmtPublic 604
+public-area-most : AtMost tpmtPublic 606
 unfolding tpmtPublic
 public-area-most =
-    follows 2 602 alg (λ type. follows 2 600 alg (λ n. follows 4 596 free (λ n. buffer-most 2 64 530 (then-most _ _ 16 514 (parms-by-most type) (unique-by-most type)))))
+    follows 2 604 alg (λ type. follows 2 602 alg (λ n. follows 4 598 free (λ n. buffer-most 2 64 532 (then-most _ _ 18 514 (parms-by-most type) (unique-by-most type)))))
 
 sensitive-most : AtMost tpmtSensitive 392
 unfolding tpmtSensitive
@@ -232,13 +240,17 @@ code-reaches : Reaches (one 2 alg) 2
 unfolding isAlgorithm algorithms
 code-reaches = number-reaches 2 alg 0x0B (omega arith) refl stop-reaches
 
-asym-reaches : Reaches tpmtAsymScheme 4
-unfolding tpmtAsymScheme isAlgorithm algorithms tpmuAsymScheme tpmuAsymSchemeArm tpmsSchemeHash
-asym-reaches = number-reaches 2 alg 0x14 (omega arith) refl (arm-reaches 0x14 1 code-reaches)
+ecdaa-reaches : Reaches tpmsSchemeEcdaa 4
+unfolding tpmsSchemeEcdaa isAlgorithm algorithms
+ecdaa-reaches = number-reaches 2 alg 0x0B (omega arith) refl (number-reaches 2 free 0 (omega arith) refl stop-reaches)
 
-sig-reaches : Reaches tpmtSigScheme 4
-unfolding tpmtSigScheme isAlgorithm algorithms tpmuSigScheme tpmuSigSchemeArm tpmsSchemeHash
-sig-reaches = number-reaches 2 alg 0x14 (omega arith) refl (arm-reaches 0x14 1 code-reaches)
+asym-reaches : Reaches tpmtAsymScheme 6
+unfolding tpmtAsymScheme isAlgorithm algorithms tpmuAsymScheme tpmuAsymSchemeArm
+asym-reaches = number-reaches 2 alg 0x1A (omega arith) refl (arm-reaches 0x1A 0x1A ecdaa-reaches)
+
+sig-reaches : Reaches tpmtSigScheme 6
+unfolding tpmtSigScheme isAlgorithm algorithms tpmuSigScheme tpmuSigSchemeArm
+sig-reaches = number-reaches 2 alg 0x1A (omega arith) refl (arm-reaches 0x1A 0x1A ecdaa-reaches)
 
 keyedhash-reaches : Reaches tpmtKeyedhashScheme 6
 unfolding tpmtKeyedhashScheme isAlgorithm algorithms tpmuKeyedhashScheme tpmuKeyedhashSchemeArm tpmsSchemeXor
@@ -253,11 +265,11 @@ unfolding tpmtSymDef isAlgorithm algorithms tpmuSymKeyBits tpmuSymMode tpmuSymKe
 sym-def-reaches =
     number-reaches 2 alg 0x06 (omega arith) refl (then-reaches (arm-reaches 0x06 0x06 (number-reaches 2 free 128 (omega arith) refl stop-reaches)) (arm-reaches 0x06 0x06 code-reaches))
 
-rsa-parms-reaches : Reaches tpmsRsaParms 16
+rsa-parms-reaches : Reaches tpmsRsaParms 18
 unfolding tpmsRsaParms
 rsa-parms-reaches = then-reaches sym-def-reaches (then-reaches asym-reaches (number-reaches 2 free 2048 (omega arith) refl (number-reaches 4 free 0 (omega arith) refl stop-reaches)))
 
-parms-reaches : Reaches (tpmuPublicParms 0x01) 16
+parms-reaches : Reaches (tpmuPublicParms 0x01) 18
 unfolding tpmuPublicParms tpmuPublicParmsArm
 parms-reaches = arm-reaches 0x01 0x01 rsa-parms-reaches
 
@@ -265,7 +277,7 @@ unique-reaches : Reaches (tpmuPublicId 0x01) 514
 unfolding tpmuPublicId tpmuPublicIdArm
 unique-reaches = arm-reaches 0x01 0x01 (buffer-reaches 2 512 (omega arith) stop-reaches)
 
-public-parms-reaches : Reaches tpmtPublicParms 18
+public-parms-reaches : Reaches tpmtPublicParms 20
 unfolding tpmtPublicParms isAlgorithm algorithms
 public-parms-reaches = number-reaches 2 alg 0x01 (omega arith) refl parms-reaches
 
@@ -273,7 +285,7 @@ signature-reaches : Reaches tpmtSignature 518
 unfolding tpmtSignature isAlgorithm algorithms tpmuSignature tpmuSignatureArm tpmsSignatureRsa
 signature-reaches = number-reaches 2 alg 0x14 (omega arith) refl (arm-reaches 0x14 0x14 (number-reaches 2 alg 0x0B (omega arith) refl (buffer-reaches 2 512 (omega arith) stop-reaches)))
 
-public-area-reaches : Reaches tpmtPublic 604
+public-area-reaches : Reaches tpmtPublic 606
 unfolding tpmtPublic isAlgorithm algorithms
 public-area-reaches =
     number-reaches 2 alg 0x01 (omega arith) refl

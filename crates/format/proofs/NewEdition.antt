@@ -16,9 +16,9 @@ use Rattle.wire.specs.Reading.{piece, field, read, list}
 use Rattle.wire.specs.Editions.{Later}
 use Rattle.codes.specs.Codes.{algorithms, isAlgorithm, isCurve, isAttestation, sha1, curves, attestations}
 use Rattle.codes.specs.Digests.{digestRow}
-use Rattle.format.specs.Kinds.{digestOf, tpmuHaArm, tpmuHa, tpmtHa, kinds, layoutOf, tpmuAsymSchemeArm, tpmuAsymScheme, tpmuSigSchemeArm, tpmuSigScheme, tpmuKeyedhashSchemeArm, tpmuKeyedhashScheme, tpmuKdfSchemeArm, tpmuKdfScheme, tpmuSymKeyBitsArm, tpmuSymKeyBits, tpmuSymModeArm, tpmuSymMode, tpmuPublicParmsArm, tpmuPublicParms, tpmuPublicIdArm, tpmuPublicId, tpmuSensitiveCompositeArm, tpmuSensitiveComposite, tpmuSignatureArm, tpmuSignature, tpmuAttestArm, tpmuAttest, tpmsSchemeHash, tpmsSchemeXor, tpmtSymDef, tpmtKdfScheme, tpmtKeyedhashScheme, tpmtSigScheme, tpmtAsymScheme, tpmsRsaParms, tpmsEccParms, tpmsSignatureRsa, tpmsSignatureEcc, tpmtPublicParms, tpmtSignature, tpmtPublic, tpmtSensitive, tpmsPcrSelection, tpmlPcrSelection, tpmsQuoteInfo, tpmsCommandAuditInfo, tpmsAttest, tpmsClockInfo}
+use Rattle.format.specs.Kinds.{digestOf, tpmuHaArm, tpmuHa, tpmtHa, kinds, layoutOf, tpmuAsymSchemeArm, tpmuAsymScheme, tpmuSigSchemeArm, tpmuSigScheme, tpmuKeyedhashSchemeArm, tpmuKeyedhashScheme, tpmuKdfSchemeArm, tpmuKdfScheme, tpmuSymKeyBitsArm, tpmuSymKeyBits, tpmuSymModeArm, tpmuSymMode, tpmuPublicParmsArm, tpmuPublicParms, tpmuPublicIdArm, tpmuPublicId, tpmuSensitiveCompositeArm, tpmuSensitiveComposite, tpmuSignatureArm, tpmuSignature, tpmuAttestArm, tpmuAttest, tpmsSchemeHash, tpmsSchemeEcdaa, tpmsSchemeXor, tpmtSymDef, tpmtKdfScheme, tpmtKeyedhashScheme, tpmtSigScheme, tpmtAsymScheme, tpmsRsaParms, tpmsEccParms, tpmsSignatureRsa, tpmsSignatureEcc, tpmtPublicParms, tpmtSignature, tpmtPublic, tpmtSensitive, tpmsPcrSelection, tpmlPcrSelection, tpmsQuoteInfo, tpmsCommandAuditInfo, tpmsAttest, tpmsClockInfo}
 use Rattle.format.specs.Editions.{Edition, Extends}
-use Rattle.format.specs.EditionKinds.{tpmuHaIn, tpmtHaIn, kindsIn, layoutIn, tpmuAsymSchemeIn, tpmuSigSchemeIn, tpmuKeyedhashSchemeIn, tpmuKdfSchemeIn, tpmuSymKeyBitsIn, tpmuSymModeIn, tpmuPublicParmsIn, tpmuPublicIdIn, tpmuSensitiveCompositeIn, tpmuSignatureIn, tpmuAttestIn, tpmsSchemeHashIn, tpmsSchemeXorIn, tpmtSymDefIn, tpmtKdfSchemeIn, tpmtKeyedhashSchemeIn, tpmtSigSchemeIn, tpmtAsymSchemeIn, tpmsRsaParmsIn, tpmsEccParmsIn, tpmsSignatureRsaIn, tpmsSignatureEccIn, tpmtPublicParmsIn, tpmtSignatureIn, tpmtPublicIn, tpmtSensitiveIn, tpmsPcrSelectionIn, tpmlPcrSelectionIn, tpmsQuoteInfoIn, tpmsCommandAuditInfoIn, tpmsAttestIn}
+use Rattle.format.specs.EditionKinds.{tpmuHaIn, tpmtHaIn, kindsIn, layoutIn, tpmuAsymSchemeIn, tpmuSigSchemeIn, tpmuKeyedhashSchemeIn, tpmuKdfSchemeIn, tpmuSymKeyBitsIn, tpmuSymModeIn, tpmuPublicParmsIn, tpmuPublicIdIn, tpmuSensitiveCompositeIn, tpmuSignatureIn, tpmuAttestIn, tpmsSchemeHashIn, tpmsSchemeEcdaaIn, tpmsSchemeXorIn, tpmtSymDefIn, tpmtKdfSchemeIn, tpmtKeyedhashSchemeIn, tpmtSigSchemeIn, tpmtAsymSchemeIn, tpmsRsaParmsIn, tpmsEccParmsIn, tpmsSignatureRsaIn, tpmsSignatureEccIn, tpmtPublicParmsIn, tpmtSignatureIn, tpmtPublicIn, tpmtSensitiveIn, tpmsPcrSelectionIn, tpmlPcrSelectionIn, tpmsQuoteInfoIn, tpmsCommandAuditInfoIn, tpmsAttestIn}
 use Rattle.format.proofs.Editions.{extension-is-later}
 
 -- algorithm 002F, curve 0050 and attestation type 8020 are listed; 002F, and 8020, have an arm in every table, a digest of 28 bytes or a
@@ -76,6 +76,13 @@ pub ours-reads-ours :
 unfolding read field piece be layoutOf kinds tpmtHa tpmuHa tpmuHaArm isAlgorithm algorithms
 ours-reads-ours = (refl, refl, refl)
 
+-- a count is no code: a record whose count is a code of the edition's alone is ours, and both read it alike
+pub count-is-no-code :
+    (read (layoutIn newEdition 7) (0x00 ∷ 0x1A ∷ 0x00 ∷ 0x0B ∷ 0x00 ∷ 0x2F ∷ []) 0 ≡ parsed (num 0x1A ∷ tag 0x1A ∷ num 0x0B ∷ num 0x2F ∷ []) 6)
+    × (read (layoutOf 7) (0x00 ∷ 0x1A ∷ 0x00 ∷ 0x0B ∷ 0x00 ∷ 0x2F ∷ []) 0 ≡ parsed (num 0x1A ∷ tag 0x1A ∷ num 0x0B ∷ num 0x2F ∷ []) 6)
+unfolding read field piece be layoutIn kindsIn tpmtAsymSchemeIn tpmuAsymSchemeIn tpmsSchemeEcdaaIn layoutOf kinds tpmtAsymScheme tpmuAsymScheme tpmuAsymSchemeArm tpmsSchemeEcdaa isAlgorithm algorithms
+count-is-no-code = (refl, refl)
+
 -- ---- every list and every table of the edition is used
 
 -- a record of the edition: its kind and its bytes, what the edition's reader answers, and how ours refuses it
@@ -110,6 +117,9 @@ newRecords =
     -- 002F as a hash, a KDF or a bank, and a curve of the edition's
     ∷ new 3 (0x00 ∷ 0x07 ∷ 0x00 ∷ 0x2F ∷ []) (parsed (num 7 ∷ tag 7 ∷ num 0x2F ∷ []) 4) (unknownCode 2 0x2F)
     ∷ new 4 (0x00 ∷ 0x0A ∷ 0x00 ∷ 0x0B ∷ 0x00 ∷ 0x2F ∷ []) (parsed (num 10 ∷ tag 10 ∷ num 11 ∷ num 0x2F ∷ []) 6) (unknownCode 4 0x2F)
+    ∷ new 2 (0x00 ∷ 0x0A ∷ 0x00 ∷ 0x2F ∷ []) (parsed (num 10 ∷ tag 10 ∷ num 0x2F ∷ tag 0x10 ∷ []) 4) (unknownCode 2 0x2F)
+    ∷ new 5 (0x00 ∷ 0x1A ∷ 0x00 ∷ 0x2F ∷ 0x00 ∷ 0x2F ∷ []) (parsed (num 0x1A ∷ tag 0x1A ∷ num 0x2F ∷ num 0x2F ∷ []) 6) (unknownCode 2 0x2F)
+    ∷ new 7 (0x00 ∷ 0x1A ∷ 0x00 ∷ 0x2F ∷ 0x00 ∷ 0x2F ∷ []) (parsed (num 0x1A ∷ tag 0x1A ∷ num 0x2F ∷ num 0x2F ∷ []) 6) (unknownCode 2 0x2F)
     ∷ new 10 (0x00 ∷ 0x14 ∷ 0x00 ∷ 0x2F ∷ 0 ∷ 0 ∷ []) (parsed (num 0x14 ∷ tag 0x14 ∷ num 0x2F ∷ span 6 0 ∷ []) 6) (unknownCode 2 0x2F)
     ∷ new 10 (0x00 ∷ 0x18 ∷ 0x00 ∷ 0x2F ∷ 0 ∷ 0 ∷ 0 ∷ 0 ∷ []) (parsed (num 0x18 ∷ tag 0x18 ∷ num 0x2F ∷ span 6 0 ∷ span 8 0 ∷ []) 8) (unknownCode 2 0x2F)
     ∷ new 13 (0xFF ∷ 0x54 ∷ 0x43 ∷ 0x47 ∷ 0x80 ∷ 0x15 ∷ 0 ∷ 0 ∷ 0 ∷ 0 ∷ clock (replicate 8 0 ++ (0x00 ∷ 0x2F ∷ 0 ∷ 0 ∷ 0 ∷ 0 ∷ [])))
@@ -125,5 +135,5 @@ AllAnswered [] = Unit {0}
 AllAnswered (r ∷ rs) = (read (layoutIn newEdition (r .kind)) (r .spelled) 0 ≡ r .theirs) × (read (layoutOf (r .kind)) (r .spelled) 0 ≡ refused (r .ours)) × AllAnswered rs
 
 pub new-records-are-answered : AllAnswered newRecords
-unfolding read field piece list be layoutIn layoutOf isAlgorithm algorithms isCurve curves isAttestation attestations _then_ kindsIn kinds tpmuHaIn tpmuAsymSchemeIn tpmuSigSchemeIn tpmuKeyedhashSchemeIn tpmuKdfSchemeIn tpmuSymKeyBitsIn tpmuSymModeIn tpmuPublicParmsIn tpmuPublicIdIn tpmuSensitiveCompositeIn tpmuSignatureIn tpmuAttestIn tpmsSchemeHashIn tpmsSchemeXorIn tpmtHaIn tpmtSymDefIn tpmtKdfSchemeIn tpmtKeyedhashSchemeIn tpmtSigSchemeIn tpmtAsymSchemeIn tpmsRsaParmsIn tpmsEccParmsIn tpmsSignatureRsaIn tpmsSignatureEccIn tpmtPublicParmsIn tpmtSignatureIn tpmtPublicIn tpmtSensitiveIn tpmsPcrSelectionIn tpmlPcrSelectionIn tpmsQuoteInfoIn tpmsCommandAuditInfoIn tpmsAttestIn tpmuHaArm tpmuHa tpmuAsymSchemeArm tpmuAsymScheme tpmuSigSchemeArm tpmuSigScheme tpmuKeyedhashSchemeArm tpmuKeyedhashScheme tpmuKdfSchemeArm tpmuKdfScheme tpmuSymKeyBitsArm tpmuSymKeyBits tpmuSymModeArm tpmuSymMode tpmuPublicParmsArm tpmuPublicParms tpmuPublicIdArm tpmuPublicId tpmuSensitiveCompositeArm tpmuSensitiveComposite tpmuSignatureArm tpmuSignature tpmuAttestArm tpmuAttest tpmsSchemeHash tpmsSchemeXor tpmtHa tpmtSymDef tpmtKdfScheme tpmtKeyedhashScheme tpmtSigScheme tpmtAsymScheme tpmsRsaParms tpmsEccParms tpmsSignatureRsa tpmsSignatureEcc tpmtPublicParms tpmtSignature tpmtPublic tpmtSensitive tpmsPcrSelection tpmlPcrSelection tpmsQuoteInfo tpmsCommandAuditInfo tpmsClockInfo tpmsAttest
-new-records-are-answered = (refl, refl, (refl, refl, (refl, refl, (refl, refl, (refl, refl, (refl, refl, (refl, refl, (refl, refl, (refl, refl, (refl, refl, (refl, refl, (refl, refl, (refl, refl, (refl, refl, (refl, refl, (refl, refl, (refl, refl, tt)))))))))))))))))
+unfolding read field piece list be layoutIn layoutOf isAlgorithm algorithms isCurve curves isAttestation attestations _then_ kindsIn kinds tpmuHaIn tpmuAsymSchemeIn tpmuSigSchemeIn tpmuKeyedhashSchemeIn tpmuKdfSchemeIn tpmuSymKeyBitsIn tpmuSymModeIn tpmuPublicParmsIn tpmuPublicIdIn tpmuSensitiveCompositeIn tpmuSignatureIn tpmuAttestIn tpmsSchemeHashIn tpmsSchemeEcdaaIn tpmsSchemeXorIn tpmtHaIn tpmtSymDefIn tpmtKdfSchemeIn tpmtKeyedhashSchemeIn tpmtSigSchemeIn tpmtAsymSchemeIn tpmsRsaParmsIn tpmsEccParmsIn tpmsSignatureRsaIn tpmsSignatureEccIn tpmtPublicParmsIn tpmtSignatureIn tpmtPublicIn tpmtSensitiveIn tpmsPcrSelectionIn tpmlPcrSelectionIn tpmsQuoteInfoIn tpmsCommandAuditInfoIn tpmsAttestIn tpmuHaArm tpmuHa tpmuAsymSchemeArm tpmuAsymScheme tpmuSigSchemeArm tpmuSigScheme tpmuKeyedhashSchemeArm tpmuKeyedhashScheme tpmuKdfSchemeArm tpmuKdfScheme tpmuSymKeyBitsArm tpmuSymKeyBits tpmuSymModeArm tpmuSymMode tpmuPublicParmsArm tpmuPublicParms tpmuPublicIdArm tpmuPublicId tpmuSensitiveCompositeArm tpmuSensitiveComposite tpmuSignatureArm tpmuSignature tpmuAttestArm tpmuAttest tpmsSchemeHash tpmsSchemeEcdaa tpmsSchemeXor tpmtHa tpmtSymDef tpmtKdfScheme tpmtKeyedhashScheme tpmtSigScheme tpmtAsymScheme tpmsRsaParms tpmsEccParms tpmsSignatureRsa tpmsSignatureEcc tpmtPublicParms tpmtSignature tpmtPublic tpmtSensitive tpmsPcrSelection tpmlPcrSelection tpmsQuoteInfo tpmsCommandAuditInfo tpmsClockInfo tpmsAttest
+new-records-are-answered = (refl, refl, (refl, refl, (refl, refl, (refl, refl, (refl, refl, (refl, refl, (refl, refl, (refl, refl, (refl, refl, (refl, refl, (refl, refl, (refl, refl, (refl, refl, (refl, refl, (refl, refl, (refl, refl, (refl, refl, (refl, refl, (refl, refl, (refl, refl, tt))))))))))))))))))))

@@ -7,8 +7,8 @@ use mathlib.Core.List.{List, [], _∷_}
 use Rattle.wire.specs.declared.choice.Choice.the-variants.{Nothing, The}
 use Rattle.wire.specs.Layout.{Layout, stop, plain}
 use Rattle.wire.specs.Unions.{Row}
-use Rattle.format.specs.Kinds.{digestOf, digestSize, tpmsSchemeHash, tpmuHaTable, tpmuAsymSchemeTable, tpmuSigSchemeTable, tpmuKeyedhashSchemeTable, tpmuKdfSchemeTable, tpmuSymKeyBitsTable, tpmuSymModeTable, tpmuPublicParmsTable, tpmuPublicIdTable, tpmuSensitiveCompositeTable, tpmuSignatureTable, tpmuAttestTable, tpmuHaArm, tpmuHaBody, tpmuSigSchemeArm, tpmuSigSchemeBody, tpmuSymKeyBitsArm, tpmuSymModeArm, tpmuPublicParmsArm, tpmuPublicIdArm, tpmuAttestArm}
-use Rattle.codes.specs.Codes.{null, member, attestations, isAttestation}
+use Rattle.format.specs.Kinds.{digestOf, digestSize, tpmsSchemeHash, tpmuHaTable, tpmuAsymSchemeTable, tpmuSigSchemeTable, tpmuKeyedhashSchemeTable, tpmuKdfSchemeTable, tpmuSymKeyBitsTable, tpmuSymModeTable, tpmuPublicParmsTable, tpmuPublicIdTable, tpmuSensitiveCompositeTable, tpmuSignatureTable, tpmuAttestTable, tpmuHaArm, tpmuHaBody, tpmuSigSchemeArm, tpmuSigSchemeBody, tpmuPublicParmsArm, tpmuPublicIdArm, tpmuAttestArm}
+use Rattle.codes.specs.Codes.{null, ecdaa, member, attestations, isAttestation}
 use Rattle.codes.proofs.Digests.{Agrees, digests-agree, digest-sized}
 use Rattle.codes.proofs.Choices.{Each, chosen-has, chosen-listed, none-listed}
 
@@ -42,11 +42,7 @@ tables =
 pub tables-agree : AllAgree tables
 tables-agree = digests-agree & refl & refl & refl & refl & refl & refl & refl & refl & refl & refl & refl & tt
 
--- key bits and mode are chosen alike, and so are parameters and unique
-pub mode-arm : (v : ℕ) → tpmuSymModeArm v ≡ tpmuSymKeyBitsArm v
-unfolding tpmuSymModeArm tpmuSymKeyBitsArm
-mode-arm v = refl
-
+-- parameters and unique are chosen alike
 pub id-arm : (v : ℕ) → tpmuPublicIdArm v ≡ tpmuPublicParmsArm v
 unfolding tpmuPublicIdArm tpmuPublicParmsArm
 id-arm v = refl
@@ -66,13 +62,13 @@ digest-body v {n} e = rw (digest-sized n) at (chosen-has (λ t. (t ≡ null → 
         (λ h. refl) & (λ h. refl) & (λ h. refl) & (λ h. refl) & (λ h. refl) & (λ h. refl) & (λ h. refl) & (λ h. refl) & (λ h. refl) & (λ h. refl) & (λ h. refl)
         & (λ h. absurd (h refl)) & tt
 
--- an arm of the signing schemes that is not empty holds a hash code
-pub hash-body : (v : ℕ) (t : ℕ) → tpmuSigSchemeArm v ≡ The t → (t ≡ null → ⊥) → tpmuSigSchemeBody t ≡ tpmsSchemeHash
+-- an arm of the signing schemes that is neither empty nor Ecdaa's holds a hash code
+pub hash-body : (v : ℕ) (t : ℕ) → tpmuSigSchemeArm v ≡ The t → (t ≡ null → ⊥) → (t ≡ ecdaa → ⊥) → tpmuSigSchemeBody t ≡ tpmsSchemeHash
 unfolding tpmuSigSchemeArm
-hash-body v t e = chosen-has (λ t. (t ≡ null → ⊥) → tpmuSigSchemeBody t ≡ tpmsSchemeHash) tpmuSigSchemeTable rows v e
+hash-body v t e = chosen-has (λ t. (t ≡ null → ⊥) → (t ≡ ecdaa → ⊥) → tpmuSigSchemeBody t ≡ tpmsSchemeHash) tpmuSigSchemeTable rows v e
   where
-    rows : Each (λ t. (t ≡ null → ⊥) → tpmuSigSchemeBody t ≡ tpmsSchemeHash) tpmuSigSchemeTable
-    rows = (λ h. refl) & (λ h. refl) & (λ h. refl) & (λ h. refl) & (λ h. refl) & (λ h. refl) & (λ h. refl) & (λ h. absurd (h refl)) & tt
+    rows : Each (λ t. (t ≡ null → ⊥) → (t ≡ ecdaa → ⊥) → tpmuSigSchemeBody t ≡ tpmsSchemeHash) tpmuSigSchemeTable
+    rows = (λ h g. refl) & (λ h g. refl) & (λ h g. refl) & (λ h g. refl) & (λ h g. absurd (g refl)) & (λ h g. refl) & (λ h g. refl) & (λ h g. absurd (h refl)) & tt
 
 -- the listed attestation types are those with an arm
 pub attestation-arm : (v : ℕ) → tpmuAttestArm v ≡ cond (isAttestation v) (The v) Nothing

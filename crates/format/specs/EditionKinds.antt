@@ -32,6 +32,10 @@ module _ (e : Edition) where
   unfoldable pub tpmsSchemeHashIn : Layout
   tpmsSchemeHashIn = one 2 algIn
 
+  -- TPMS_SCHEME_ECDAA: a hash code and a count, which is any number
+  unfoldable pub tpmsSchemeEcdaaIn : Layout
+  tpmsSchemeEcdaaIn = number 2 algIn (λ hashAlg. one 2 free)
+
   -- TPMS_SCHEME_XOR: a hash code and a KDF code
   unfoldable pub tpmsSchemeXorIn : Layout
   tpmsSchemeXorIn = number 2 algIn (λ hashAlg. one 2 algIn)
@@ -40,7 +44,7 @@ module _ (e : Edition) where
   unfoldable pub tpmuHaIn : ℕ → Layout
   tpmuHaIn v = unionOf (tpmuHaTable ++ e .tpmuHa) v
 
-  -- TPMU_ASYM_SCHEME: a hash code, or nothing
+  -- TPMU_ASYM_SCHEME: a hash code, or nothing; Ecdaa has a count too
   abbrev pub tpmuAsymSchemeTableIn : List Row
   tpmuAsymSchemeTableIn =
       row rsaes null stop
@@ -48,7 +52,7 @@ module _ (e : Edition) where
       ∷ row rsassa hash tpmsSchemeHashIn
       ∷ row rsapss hash tpmsSchemeHashIn
       ∷ row ecdsa hash tpmsSchemeHashIn
-      ∷ row ecdaa hash tpmsSchemeHashIn
+      ∷ own ecdaa tpmsSchemeEcdaaIn
       ∷ row sm2 hash tpmsSchemeHashIn
       ∷ row ecschnorr hash tpmsSchemeHashIn
       ∷ row oaep hash tpmsSchemeHashIn
@@ -59,14 +63,14 @@ module _ (e : Edition) where
   unfoldable pub tpmuAsymSchemeIn : ℕ → Layout
   tpmuAsymSchemeIn v = unionOf tpmuAsymSchemeTableIn v
 
-  -- TPMU_SIG_SCHEME: a hash code, or nothing; the Hmac arm is apart
+  -- TPMU_SIG_SCHEME: a hash code, or nothing; the Hmac arm is apart, and Ecdaa has a count too
   abbrev pub tpmuSigSchemeTableIn : List Row
   tpmuSigSchemeTableIn =
       own hmac tpmsSchemeHashIn
       ∷ row rsassa hash tpmsSchemeHashIn
       ∷ row rsapss hash tpmsSchemeHashIn
       ∷ row ecdsa hash tpmsSchemeHashIn
-      ∷ row ecdaa hash tpmsSchemeHashIn
+      ∷ own ecdaa tpmsSchemeEcdaaIn
       ∷ row sm2 hash tpmsSchemeHashIn
       ∷ row ecschnorr hash tpmsSchemeHashIn
       ∷ own null stop
@@ -112,13 +116,13 @@ module _ (e : Edition) where
   unfoldable pub tpmuSymKeyBitsIn : ℕ → Layout
   tpmuSymKeyBitsIn v = unionOf tpmuSymKeyBitsTableIn v
 
-  -- TPMU_SYM_MODE: a mode; XOR has one too, as in the crate
+  -- TPMU_SYM_MODE: a mode; XOR has none, so that its arm is the empty one
   abbrev pub tpmuSymModeTableIn : List Row
   tpmuSymModeTableIn =
       own aes (one 2 algIn)
       ∷ own sm4 (one 2 algIn)
       ∷ own camellia (one 2 algIn)
-      ∷ own xor (one 2 algIn)
+      ∷ row xor null stop
       ∷ own null stop
       ∷ e .tpmuSymMode
 
@@ -131,7 +135,7 @@ module _ (e : Edition) where
   unfoldable pub tpmtHaIn : Layout
   tpmtHaIn = number 2 algIn (λ hashAlg. tpmuHaIn hashAlg)
 
-  -- kind 2, TPMT_SYM_DEF: a Null cipher has neither key bits nor mode
+  -- kind 2, TPMT_SYM_DEF: a Null cipher has neither key bits nor mode, and XOR no mode
   unfoldable pub tpmtSymDefIn : Layout
   tpmtSymDefIn = number 2 algIn (λ algorithm. tpmuSymKeyBitsIn algorithm then tpmuSymModeIn algorithm)
 

@@ -46,7 +46,7 @@ abbrev pub nvContents : Layout → Layout
 nvContents l = buffer 2 2048 l
 
 -- ---- the numbers of arms: a digest's is 256 more than its length (digestOf). Of the others, one that a single selector chooses has that
--- selector's code; the empty arm is Null's and has Null's code, also where Rsaes chooses it too; and a hash code that several choose is 1
+-- selector's code; the empty arm is Null's and has Null's code, also where Rsaes or Xor chooses it too; and a hash code that several choose is 1
 
 -- a hash code that several schemes choose
 abbrev pub hash : ℕ
@@ -57,6 +57,10 @@ hash = 1
 -- TPMS_SCHEME_HASH: a hash code
 unfoldable pub tpmsSchemeHash : Layout
 tpmsSchemeHash = one 2 alg
+
+-- TPMS_SCHEME_ECDAA: a hash code and a count, which is any number
+unfoldable pub tpmsSchemeEcdaa : Layout
+tpmsSchemeEcdaa = number 2 alg (λ hashAlg. one 2 free)
 
 -- TPMS_SCHEME_XOR: a hash code and a KDF code
 unfoldable pub tpmsSchemeXor : Layout
@@ -69,7 +73,7 @@ tpmuHaBody t = bodyOf tpmuHaTable t
 unfoldable pub tpmuHa : ℕ → Layout
 tpmuHa v = union (tpmuHaArm v) tpmuHaBody v
 
--- TPMU_ASYM_SCHEME: a hash code, or nothing
+-- TPMU_ASYM_SCHEME: a hash code, or nothing; Ecdaa has a count too
 abbrev pub tpmuAsymSchemeTable : List Row
 tpmuAsymSchemeTable =
     row rsaes null stop
@@ -77,7 +81,7 @@ tpmuAsymSchemeTable =
     ∷ row rsassa hash tpmsSchemeHash
     ∷ row rsapss hash tpmsSchemeHash
     ∷ row ecdsa hash tpmsSchemeHash
-    ∷ row ecdaa hash tpmsSchemeHash
+    ∷ own ecdaa tpmsSchemeEcdaa
     ∷ row sm2 hash tpmsSchemeHash
     ∷ row ecschnorr hash tpmsSchemeHash
     ∷ row oaep hash tpmsSchemeHash
@@ -94,14 +98,14 @@ tpmuAsymSchemeBody t = bodyOf tpmuAsymSchemeTable t
 unfoldable pub tpmuAsymScheme : ℕ → Layout
 tpmuAsymScheme v = union (tpmuAsymSchemeArm v) tpmuAsymSchemeBody v
 
--- TPMU_SIG_SCHEME: a hash code, or nothing; the Hmac arm is apart
+-- TPMU_SIG_SCHEME: a hash code, or nothing; the Hmac arm is apart, and Ecdaa has a count too
 abbrev pub tpmuSigSchemeTable : List Row
 tpmuSigSchemeTable =
     own hmac tpmsSchemeHash
     ∷ row rsassa hash tpmsSchemeHash
     ∷ row rsapss hash tpmsSchemeHash
     ∷ row ecdsa hash tpmsSchemeHash
-    ∷ row ecdaa hash tpmsSchemeHash
+    ∷ own ecdaa tpmsSchemeEcdaa
     ∷ row sm2 hash tpmsSchemeHash
     ∷ row ecschnorr hash tpmsSchemeHash
     ∷ own null stop
@@ -171,13 +175,13 @@ tpmuSymKeyBitsBody t = bodyOf tpmuSymKeyBitsTable t
 unfoldable pub tpmuSymKeyBits : ℕ → Layout
 tpmuSymKeyBits v = union (tpmuSymKeyBitsArm v) tpmuSymKeyBitsBody v
 
--- TPMU_SYM_MODE: a mode; XOR has one too, as in the crate
+-- TPMU_SYM_MODE: a mode; XOR has none, so that its arm is the empty one
 abbrev pub tpmuSymModeTable : List Row
 tpmuSymModeTable =
     own aes (one 2 alg)
     ∷ own sm4 (one 2 alg)
     ∷ own camellia (one 2 alg)
-    ∷ own xor (one 2 alg)
+    ∷ row xor null stop
     ∷ own null stop
     ∷ []
 
@@ -196,7 +200,7 @@ tpmuSymMode v = union (tpmuSymModeArm v) tpmuSymModeBody v
 unfoldable pub tpmtHa : Layout
 tpmtHa = number 2 alg (λ hashAlg. tpmuHa hashAlg)
 
--- kind 2, TPMT_SYM_DEF: a Null cipher has neither key bits nor mode
+-- kind 2, TPMT_SYM_DEF: a Null cipher has neither key bits nor mode, and XOR no mode
 unfoldable pub tpmtSymDef : Layout
 tpmtSymDef = number 2 alg (λ algorithm. tpmuSymKeyBits algorithm then tpmuSymMode algorithm)
 

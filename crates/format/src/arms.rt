@@ -1,4 +1,4 @@
-// The arms that a selector chooses, a function for each union. Key bits and mode have one choice, and so have parameters and unique.
+// The arms that a selector chooses, a function for each union. Parameters and unique have one choice.
 // The numbers of the arms are those of the tables.
 use codes::DigestLen;
 use codes::TpmAlgId;
@@ -30,10 +30,10 @@ pub fn asym_scheme_arm(tag: TpmAlgId) -> Choice
     let a = tag.0;
     match a {
         registry::RSAES | registry::NULL => Choice::The(registry::NULL),
+        registry::ECDAA => Choice::The(registry::ECDAA),
         registry::RSASSA
         | registry::RSAPSS
         | registry::ECDSA
-        | registry::ECDAA
         | registry::SM2
         | registry::ECSCHNORR
         | registry::OAEP
@@ -48,11 +48,10 @@ pub fn sig_scheme_arm(tag: TpmAlgId) -> Choice
 {
     let a = tag.0;
     match a {
-        registry::HMAC | registry::NULL => Choice::The(a),
+        registry::HMAC | registry::ECDAA | registry::NULL => Choice::The(a),
         registry::RSASSA
         | registry::RSAPSS
         | registry::ECDSA
-        | registry::ECDAA
         | registry::SM2
         | registry::ECSCHNORR => Choice::The(HASH),
         _ => Choice::Nothing,
@@ -98,7 +97,12 @@ pub fn sym_key_bits_arm(tag: TpmAlgId) -> Choice
 pub fn sym_mode_arm(tag: TpmAlgId) -> Choice
     ensures { λ r. ⌜ r ≡ tpmuSymModeArm (tag .0) ⌝ }
 {
-    sym_key_bits_arm(tag)
+    let a = tag.0;
+    match a {
+        registry::AES | registry::SM4 | registry::CAMELLIA => Choice::The(a),
+        registry::XOR | registry::NULL => Choice::The(registry::NULL),
+        _ => Choice::Nothing,
+    }
 }
 
 pub fn public_parms_arm(tag: TpmAlgId) -> Choice

@@ -49,6 +49,7 @@ fn cipher(case: u64, algorithm: TpmAlgId, key_bits: TpmuSymKeyBits, mode: TpmuSy
 pub fn ciphers() {
     let bits = TpmuSymKeyBits::Aes(128);
     let cfb = TpmuSymMode::Aes(TpmAlgId(0x0043));
+    let hash = TpmuSymKeyBits::Xor(TpmAlgId::Sha256);
     let unlisted = TpmAlgId(0x0002);
     cipher(9, TpmAlgId::Aes, bits, cfb);
     cipher(10, unlisted, TpmuSymKeyBits::Null, TpmuSymMode::Null);
@@ -62,4 +63,7 @@ pub fn ciphers() {
         TpmuSymKeyBits::Null,
         TpmuSymMode::Null,
     );
+    cipher(16, TpmAlgId::Xor, hash, TpmuSymMode::Null);
+    cipher(17, TpmAlgId::Xor, hash, cfb);
+    cipher(18, TpmAlgId::Null, hash, TpmuSymMode::Null);
 }

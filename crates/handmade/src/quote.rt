@@ -88,41 +88,41 @@ fn legal() -> Changes {
 
 pub fn codes_and_values() {
     let empty = [0, 0, 0, 0];
-    quote(16, legal(), &empty);
+    quote(19, legal(), &empty);
     let mut q = legal();
     q.magic = 0xff544348;
-    quote(17, q, &empty);
-    q = legal();
-    q.attest_type = 0x8013;
-    quote(18, q, &empty);
-    q = legal();
-    q.safe = 2;
-    quote(19, q, &empty);
-    q = legal();
-    q.attest_type = 0x8017;
-    q.select = Span::new(9, 9);
     quote(20, q, &empty);
     q = legal();
-    q.magic = 0xff544348;
     q.attest_type = 0x8013;
     quote(21, q, &empty);
     q = legal();
+    q.safe = 2;
+    quote(22, q, &empty);
+    q = legal();
+    q.attest_type = 0x8017;
+    q.select = Span::new(9, 9);
+    quote(23, q, &empty);
+    q = legal();
+    q.magic = 0xff544348;
+    q.attest_type = 0x8013;
+    quote(24, q, &empty);
+    q = legal();
     q.attest_type = 0x8013;
     q.signer = Span::new(0, 67);
-    quote(22, q, &empty);
+    quote(25, q, &empty);
 }
 
 pub fn spans() {
     let mut q = legal();
     q.signer = Span::new(0, 67);
-    quote(23, q, &[0; 67]);
-    quote(24, q, &[0; 66]);
+    quote(26, q, &[0; 67]);
+    quote(27, q, &[0; 66]);
     q = legal();
     q.digest = Span::new(1, 4);
-    quote(25, q, &[0, 0, 0, 0]);
+    quote(28, q, &[0, 0, 0, 0]);
     q = legal();
     q.select = Span::new(0, 7);
-    quote(26, q, &[0, 0, 0, 1, 0, 0x0b, 5]);
+    quote(29, q, &[0, 0, 0, 1, 0, 0x0b, 5]);
     q.select = Span::new(0, 6);
-    quote(27, q, &[0, 0, 0, 1, 0, 0x0b, 5]);
+    quote(30, q, &[0, 0, 0, 1, 0, 0x0b, 5]);
 }

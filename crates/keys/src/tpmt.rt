@@ -147,7 +147,7 @@ impl TpmtPublic {
     }
 
     pub fn walk(self, w: Walk, src: &[u8], out: &mut [u8]) -> Walk
-        ensures { λ r. ⌜ Walks 20 tpmtPublic (tpmtPublicParts self) [] (now (src .entry)) (here w (now (out .entry))) (here r (now (out .exit))) ⌝ }
+        ensures { λ r. ⌜ Walks 21 tpmtPublic (tpmtPublicParts self) [] (now (src .entry)) (here w (now (out .entry))) (here r (now (out .exit))) ⌝ }
     {
         let parameters = self.parameters;
         let unique = self.unique;

@@ -159,7 +159,7 @@ impl TpmsRsaParms {
     }
 
     pub fn walk(self, w: Walk, src: &[u8], out: &mut [u8]) -> Walk
-        ensures { λ r. ⌜ Walks 10 tpmsRsaParms (tpmsRsaParmsParts self) [] (now (src .entry)) (here w (now (out .entry))) (here r (now (out .exit))) ⌝ }
+        ensures { λ r. ⌜ Walks 11 tpmsRsaParms (tpmsRsaParmsParts self) [] (now (src .entry)) (here w (now (out .entry))) (here r (now (out .exit))) ⌝ }
     {
         let v = self.symmetric.walk(w, src, out);
         let u = self.scheme.walk(v, src, out);
@@ -213,7 +213,7 @@ impl TpmsEccParms {
     }
 
     pub fn walk(self, w: Walk, src: &[u8], out: &mut [u8]) -> Walk
-        ensures { λ r. ⌜ Walks 12 tpmsEccParms (tpmsEccParmsParts self) [] (now (src .entry)) (here w (now (out .entry))) (here r (now (out .exit))) ⌝ }
+        ensures { λ r. ⌜ Walks 13 tpmsEccParms (tpmsEccParmsParts self) [] (now (src .entry)) (here w (now (out .entry))) (here r (now (out .exit))) ⌝ }
     {
         let v = self.symmetric.walk(w, src, out);
         let u = self.scheme.walk(v, src, out);

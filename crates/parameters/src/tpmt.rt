@@ -76,7 +76,7 @@ impl TpmtPublicParms {
     }
 
     pub fn walk(self, w: Walk, src: &[u8], out: &mut [u8]) -> Walk
-        ensures { λ r. ⌜ Walks 14 tpmtPublicParms (tpmtPublicParmsParts self) [] (now (src .entry)) (here w (now (out .entry))) (here r (now (out .exit))) ⌝ }
+        ensures { λ r. ⌜ Walks 15 tpmtPublicParms (tpmtPublicParmsParts self) [] (now (src .entry)) (here w (now (out .entry))) (here r (now (out .exit))) ⌝ }
     {
         let parameters = self.parameters;
         parameters.walk_tagged(

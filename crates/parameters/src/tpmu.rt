@@ -82,7 +82,7 @@ impl TpmuPublicParms {
     }
 
     pub fn walk_tagged(self, tag: TpmAlgId, w: Walk, src: &[u8], out: &mut [u8]) -> Walk
-        ensures { λ r. ⌜ Walks 13 (tpmuPublicParms (tag .0)) (tpmuPublicParmsParts self) [] (now (src .entry)) (here w (now (out .entry))) (here r (now (out .exit))) ⌝ }
+        ensures { λ r. ⌜ Walks 14 (tpmuPublicParms (tag .0)) (tpmuPublicParmsParts self) [] (now (src .entry)) (here w (now (out .entry))) (here r (now (out .exit))) ⌝ }
     {
         let v = w.due(tag.0, public_parms_arm(tag), self.matches_tag(tag));
         match self {

@@ -1,11 +1,12 @@
 -- The parts of each type determine it, and no two answers of this crate mean the same. Assumes nothing.
 use mathlib.Core.Path.{refl}
 use mathlib.Core.List.{[], _∷_}
-use Rattle.wire.proofs.Once.{Injective, Once, both, fields, holds, bare, union, answers}
-use Rattle.codes.specs.Codes.{hmac, mgf1, xor, null, kdf1-sp800-56a, kdf2, kdf1-sp800-108}
+use Rattle.wire.proofs.Once.{Injective, Once, number-once, both, fields, holds, bare, union, answers}
+use Rattle.codes.specs.Codes.{hmac, mgf1, xor, null, ecdaa, kdf1-sp800-56a, kdf2, kdf1-sp800-108}
 use Rattle.format.specs.Kinds.{hash}
 use Rattle.codes.proofs.Once.{tpm-alg-id-once}
 use Rattle.schemes.specs.declared.tpms.TpmsSchemeHashRead.{TpmsSchemeHashRead}
+use Rattle.schemes.specs.declared.tpms.TpmsSchemeEcdaaRead.{TpmsSchemeEcdaaRead}
 use Rattle.schemes.specs.declared.tpms.TpmsSchemeXorRead.{TpmsSchemeXorRead}
 use Rattle.schemes.specs.declared.tpmu.TpmuAsymScheme.{TpmuAsymScheme}
 use Rattle.schemes.specs.declared.tpmu.TpmuSigScheme.{TpmuSigScheme}
@@ -21,13 +22,16 @@ use Rattle.schemes.specs.declared.tpmt.TpmtSigSchemeRead.{TpmtSigSchemeR
 use Rattle.schemes.specs.declared.tpmt.TpmtRsaSchemeRead.{TpmtRsaSchemeRead}
 use Rattle.schemes.specs.declared.tpmt.TpmtEccSchemeRead.{TpmtEccSchemeRead}
 use Rattle.schemes.specs.declared.tpmt.TpmtRsaDecryptRead.{TpmtRsaDecryptRead}
-use Rattle.schemes.specs.Parts.{tpmsSchemeHashParts, tpmsSchemeXorParts, tpmuAsymSchemeParts, tpmuSigSchemeParts, tpmuKeyedhashSchemeParts, tpmuKdfSchemeParts, tpmtKdfSchemeParts, tpmtKeyedhashSchemeParts, tpmtSigSchemeParts, tpmtRsaSchemeParts, tpmtEccSchemeParts, tpmtRsaDecryptParts}
-use Rattle.schemes.specs.Answers.{tpmsSchemeHashAnswer, tpmsSchemeXorAnswer, tpmuAsymSchemeAnswer, tpmuSigSchemeAnswer, tpmuKeyedhashSchemeAnswer, tpmuKdfSchemeAnswer, tpmtKdfSchemeAnswer, tpmtKeyedhashSchemeAnswer, tpmtSigSchemeAnswer, tpmtRsaSchemeAnswer, tpmtEccSchemeAnswer, tpmtRsaDecryptAnswer}
+use Rattle.schemes.specs.Parts.{tpmsSchemeHashParts, tpmsSchemeEcdaaParts, tpmsSchemeXorParts, tpmuAsymSchemeParts, tpmuSigSchemeParts, tpmuKeyedhashSchemeParts, tpmuKdfSchemeParts, tpmtKdfSchemeParts, tpmtKeyedhashSchemeParts, tpmtSigSchemeParts, tpmtRsaSchemeParts, tpmtEccSchemeParts, tpmtRsaDecryptParts}
+use Rattle.schemes.specs.Answers.{tpmsSchemeHashAnswer, tpmsSchemeEcdaaAnswer, tpmsSchemeXorAnswer, tpmuAsymSchemeAnswer, tpmuSigSchemeAnswer, tpmuKeyedhashSchemeAnswer, tpmuKdfSchemeAnswer, tpmtKdfSchemeAnswer, tpmtKeyedhashSchemeAnswer, tpmtSigSchemeAnswer, tpmtRsaSchemeAnswer, tpmtEccSchemeAnswer, tpmtRsaDecryptAnswer}
 
 -- ---- structures that schemes hold
 
 pub tpms-scheme-hash-once : Once tpmsSchemeHashParts
 tpms-scheme-hash-once = fields (λ s. s .«hash_alg») (λ f. record { «hash_alg» = f }) (λ s. refl) tpm-alg-id-once
+
+pub tpms-scheme-ecdaa-once : Once tpmsSchemeEcdaaParts
+tpms-scheme-ecdaa-once = fields (λ s. (s .«hash_alg», s .count)) (λ (a, n). record { «hash_alg» = a; count = n }) (λ s. refl) (both tpm-alg-id-once number-once)
 
 pub tpms-scheme-xor-once : Once tpmsSchemeXorParts
 tpms-scheme-xor-once = fields (λ s. (s .«hash_alg», s .kdf)) (λ (a, b). record { «hash_alg» = a; kdf = b }) (λ s. refl) (both tpm-alg-id-once tpm-alg-id-once)
@@ -38,10 +42,12 @@ pub tpmu-asym-scheme-once : Once tpmuAsymSchemeParts
 tpmu-asym-scheme-once =
     union
     (holds hash TpmuAsymScheme.Hash tpms-scheme-hash-once
+    ∷ holds ecdaa TpmuAsymScheme.Ecdaa tpms-scheme-ecdaa-once
     ∷ bare null TpmuAsymScheme.Null
     ∷ [])
     (λ u qs. elim u [
       | TpmuAsymScheme.Hash x ↦ rw (tpms-scheme-hash-once .back x qs)
+      | TpmuAsymScheme.Ecdaa x ↦ rw (tpms-scheme-ecdaa-once .back x qs)
       | TpmuAsymScheme.Null ↦ refl
     ])
 
@@ -50,11 +56,13 @@ tpmu-sig-scheme-once =
     union
     (holds hash TpmuSigScheme.Hash tpms-scheme-hash-once
     ∷ holds hmac TpmuSigScheme.Hmac tpms-scheme-hash-once
+    ∷ holds ecdaa TpmuSigScheme.Ecdaa tpms-scheme-ecdaa-once
     ∷ bare null TpmuSigScheme.Null
     ∷ [])
     (λ u qs. elim u [
       | TpmuSigScheme.Hash x ↦ rw (tpms-scheme-hash-once .back x qs)
       | TpmuSigScheme.Hmac x ↦ rw (tpms-scheme-hash-once .back x qs)
+      | TpmuSigScheme.Ecdaa x ↦ rw (tpms-scheme-ecdaa-once .back x qs)
       | TpmuSigScheme.Null ↦ refl
     ])
 
@@ -112,6 +120,9 @@ tpmt-rsa-decrypt-once = fields (λ s. (s .scheme, s .details)) (λ (a, d). recor
 
 pub tpms-scheme-hash-answer-once : Injective tpmsSchemeHashAnswer
 tpms-scheme-hash-answer-once = answers tpms-scheme-hash-once TpmsSchemeHashRead.Found TpmsSchemeHashRead.No tpmsSchemeHashAnswer (λ back. elim [ TpmsSchemeHashRead.Found x e ↦ back x e | TpmsSchemeHashRead.No f ↦ refl ])
+
+pub tpms-scheme-ecdaa-answer-once : Injective tpmsSchemeEcdaaAnswer
+tpms-scheme-ecdaa-answer-once = answers tpms-scheme-ecdaa-once TpmsSchemeEcdaaRead.Found TpmsSchemeEcdaaRead.No tpmsSchemeEcdaaAnswer (λ back. elim [ TpmsSchemeEcdaaRead.Found x e ↦ back x e | TpmsSchemeEcdaaRead.No f ↦ refl ])
 
 pub tpms-scheme-xor-answer-once : Injective tpmsSchemeXorAnswer
 tpms-scheme-xor-answer-once = answers tpms-scheme-xor-once TpmsSchemeXorRead.Found TpmsSchemeXorRead.No tpmsSchemeXorAnswer (λ back. elim [ TpmsSchemeXorRead.Found x e ↦ back x e | TpmsSchemeXorRead.No f ↦ refl ])

@@ -1,6 +1,7 @@
 -- What the answers of the readers mean: the parts of the record that was found and the place where it ends, or the refusal. Assumes nothing.
 use Rattle.wire.specs.Records.{Ans, refused, Parsed, parsed}
 use Rattle.schemes.specs.declared.tpms.TpmsSchemeHashRead.{TpmsSchemeHashRead}
+use Rattle.schemes.specs.declared.tpms.TpmsSchemeEcdaaRead.{TpmsSchemeEcdaaRead}
 use Rattle.schemes.specs.declared.tpms.TpmsSchemeXorRead.{TpmsSchemeXorRead}
 use Rattle.schemes.specs.declared.tpmu.TpmuAsymSchemeRead.{TpmuAsymSchemeRead}
 use Rattle.schemes.specs.declared.tpmu.TpmuSigSchemeRead.{TpmuSigSchemeRead}
@@ -12,11 +13,15 @@ use Rattle.schemes.specs.declared.tpmt.TpmtSigSchemeRead.{TpmtSigSchemeR
 use Rattle.schemes.specs.declared.tpmt.TpmtRsaSchemeRead.{TpmtRsaSchemeRead}
 use Rattle.schemes.specs.declared.tpmt.TpmtEccSchemeRead.{TpmtEccSchemeRead}
 use Rattle.schemes.specs.declared.tpmt.TpmtRsaDecryptRead.{TpmtRsaDecryptRead}
-use Rattle.schemes.specs.Parts.{tpmsSchemeHashParts, tpmsSchemeXorParts, tpmuAsymSchemeParts, tpmuSigSchemeParts, tpmuKeyedhashSchemeParts, tpmuKdfSchemeParts, tpmtKdfSchemeParts, tpmtKeyedhashSchemeParts, tpmtSigSchemeParts, tpmtRsaSchemeParts, tpmtEccSchemeParts, tpmtRsaDecryptParts}
+use Rattle.schemes.specs.Parts.{tpmsSchemeHashParts, tpmsSchemeEcdaaParts, tpmsSchemeXorParts, tpmuAsymSchemeParts, tpmuSigSchemeParts, tpmuKeyedhashSchemeParts, tpmuKdfSchemeParts, tpmtKdfSchemeParts, tpmtKeyedhashSchemeParts, tpmtSigSchemeParts, tpmtRsaSchemeParts, tpmtEccSchemeParts, tpmtRsaDecryptParts}
 
 abbrev pub tpmsSchemeHashAnswer : TpmsSchemeHashRead → Ans Parsed
 tpmsSchemeHashAnswer (TpmsSchemeHashRead.Found x e) = parsed (tpmsSchemeHashParts x) e
 tpmsSchemeHashAnswer (TpmsSchemeHashRead.No f) = refused f
+
+abbrev pub tpmsSchemeEcdaaAnswer : TpmsSchemeEcdaaRead → Ans Parsed
+tpmsSchemeEcdaaAnswer (TpmsSchemeEcdaaRead.Found x e) = parsed (tpmsSchemeEcdaaParts x) e
+tpmsSchemeEcdaaAnswer (TpmsSchemeEcdaaRead.No f) = refused f
 
 abbrev pub tpmsSchemeXorAnswer : TpmsSchemeXorRead → Ans Parsed
 tpmsSchemeXorAnswer (TpmsSchemeXorRead.Found x e) = parsed (tpmsSchemeXorParts x) e

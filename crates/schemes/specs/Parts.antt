@@ -1,9 +1,10 @@
 -- The parts of schemes, in wire order; of a union the arm that it holds comes first. Assumes nothing.
 use mathlib.Core.List.{List, [], _∷_}
 use Rattle.wire.specs.Records.{Part, num, tag}
-use Rattle.codes.specs.Codes.{hmac, mgf1, xor, null, kdf1-sp800-56a, kdf2, kdf1-sp800-108}
+use Rattle.codes.specs.Codes.{hmac, mgf1, xor, null, ecdaa, kdf1-sp800-56a, kdf2, kdf1-sp800-108}
 use Rattle.format.specs.Kinds.{hash}
 use Rattle.schemes.specs.declared.tpms.TpmsSchemeHash.{TpmsSchemeHash}
+use Rattle.schemes.specs.declared.tpms.TpmsSchemeEcdaa.{TpmsSchemeEcdaa}
 use Rattle.schemes.specs.declared.tpms.TpmsSchemeXor.{TpmsSchemeXor}
 use Rattle.schemes.specs.declared.tpmu.TpmuAsymScheme.{TpmuAsymScheme}
 use Rattle.schemes.specs.declared.tpmu.TpmuSigScheme.{TpmuSigScheme}
@@ -21,6 +22,9 @@ use Rattle.schemes.specs.declared.tpmt.TpmtRsaDecrypt.{TpmtRsaDecrypt}
 abbrev pub tpmsSchemeHashParts : TpmsSchemeHash → List Part
 tpmsSchemeHashParts h = num (h .«hash_alg» .0) ∷ []
 
+abbrev pub tpmsSchemeEcdaaParts : TpmsSchemeEcdaa → List Part
+tpmsSchemeEcdaaParts x = num (x .«hash_alg» .0) ∷ num (x .count) ∷ []
+
 abbrev pub tpmsSchemeXorParts : TpmsSchemeXor → List Part
 tpmsSchemeXorParts x = num (x .«hash_alg» .0) ∷ num (x .kdf .0) ∷ []
 
@@ -28,11 +32,13 @@ tpmsSchemeXorParts x = num (x .«hash_alg» .0) ∷ num (x .kdf .0) ∷ []
 
 abbrev pub tpmuAsymSchemeParts : TpmuAsymScheme → List Part
 tpmuAsymSchemeParts (TpmuAsymScheme.Hash h) = tag hash ∷ tpmsSchemeHashParts h
+tpmuAsymSchemeParts (TpmuAsymScheme.Ecdaa x) = tag ecdaa ∷ tpmsSchemeEcdaaParts x
 tpmuAsymSchemeParts TpmuAsymScheme.Null = tag null ∷ []
 
 abbrev pub tpmuSigSchemeParts : TpmuSigScheme → List Part
 tpmuSigSchemeParts (TpmuSigScheme.Hash h) = tag hash ∷ tpmsSchemeHashParts h
 tpmuSigSchemeParts (TpmuSigScheme.Hmac h) = tag hmac ∷ tpmsSchemeHashParts h
+tpmuSigSchemeParts (TpmuSigScheme.Ecdaa x) = tag ecdaa ∷ tpmsSchemeEcdaaParts x
 tpmuSigSchemeParts TpmuSigScheme.Null = tag null ∷ []
 
 abbrev pub tpmuKeyedhashSchemeParts : TpmuKeyedhashScheme → List Part

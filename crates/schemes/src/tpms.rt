@@ -1,21 +1,28 @@
 // The structures that schemes hold.
 use codes::TpmAlgId;
 use codes::TpmAlgIdRead;
+use codes::uint::Uint16Read;
+use codes::uint::uint16;
 use faults::Refusal;
 use steps::walk::Walk;
 ghost use mathlib.Core.Path.{_≡_};
 ghost use mathlib.Core.List.{[]};
 ghost use Rattle.wire.specs.Reading.{read};
-ghost use Rattle.format.specs.Kinds.{tpmsSchemeHash, tpmsSchemeXor};
+ghost use Rattle.format.specs.Kinds.{tpmsSchemeHash, tpmsSchemeEcdaa, tpmsSchemeXor};
 ghost use Rattle.steps.specs.Walks.{here, Walks};
-ghost use Rattle.schemes.specs.Answers.{tpmsSchemeHashAnswer, tpmsSchemeXorAnswer};
-ghost use Rattle.schemes.specs.Parts.{tpmsSchemeHashParts, tpmsSchemeXorParts};
+ghost use Rattle.schemes.specs.Answers.{tpmsSchemeHashAnswer, tpmsSchemeEcdaaAnswer, tpmsSchemeXorAnswer};
+ghost use Rattle.schemes.specs.Parts.{tpmsSchemeHashParts, tpmsSchemeEcdaaParts, tpmsSchemeXorParts};
 
 pub struct TpmsSchemeHash {
     pub hash_alg: TpmAlgId,
 }
 
 pub type TpmsSchemeHmac = TpmsSchemeHash;
+
+pub struct TpmsSchemeEcdaa {
+    pub hash_alg: TpmAlgId,
+    pub count: u16,
+}
 
 pub struct TpmsSchemeXor {
     pub hash_alg: TpmAlgId,
@@ -24,6 +31,11 @@ pub struct TpmsSchemeXor {
 
 pub enum TpmsSchemeHashRead {
     Found(TpmsSchemeHash, usize),
+    No(Refusal),
+}
+
+pub enum TpmsSchemeEcdaaRead {
+    Found(TpmsSchemeEcdaa, usize),
     No(Refusal),
 }
 
@@ -52,6 +64,36 @@ impl TpmsSchemeHash {
         ensures { λ r. ⌜ Walks 1 tpmsSchemeHash (tpmsSchemeHashParts self) [] (now (src .entry)) (here w (now (out .entry))) (here r (now (out .exit))) ⌝ }
     {
         w.algorithm(self.hash_alg, out)
+    }
+}
+
+impl TpmsSchemeEcdaa {
+    // TPMS_SCHEME_ECDAA, read.
+    pub fn unmarshal(s: &[u8], at: usize) -> TpmsSchemeEcdaaRead
+        ensures { λ r. ⌜ tpmsSchemeEcdaaAnswer r ≡ read tpmsSchemeEcdaa (now (s .entry)) at ⌝ }
+    {
+        let mut end = at;
+        let hash_alg = match TpmAlgId::unmarshal(s, end) {
+            TpmAlgIdRead::Found(v, e) => {
+                end = e;
+                v
+            }
+            TpmAlgIdRead::No(f) => return TpmsSchemeEcdaaRead::No(f),
+        };
+        let count = match uint16(s, end) {
+            Uint16Read::Found(v, e) => {
+                end = e;
+                v
+            }
+            Uint16Read::No(f) => return TpmsSchemeEcdaaRead::No(f),
+        };
+        TpmsSchemeEcdaaRead::Found(Self { hash_alg, count }, end)
+    }
+
+    pub fn walk(self, w: Walk, src: &[u8], out: &mut [u8]) -> Walk
+        ensures { λ r. ⌜ Walks 2 tpmsSchemeEcdaa (tpmsSchemeEcdaaParts self) [] (now (src .entry)) (here w (now (out .entry))) (here r (now (out .exit))) ⌝ }
+    {
+        w.algorithm(self.hash_alg, out).uint16(self.count, out)
     }
 }
 

@@ -292,7 +292,7 @@ impl TpmtSigScheme {
     }
 
     pub fn walk(self, w: Walk, src: &[u8], out: &mut [u8]) -> Walk
-        ensures { λ r. ⌜ Walks 3 tpmtSigScheme (tpmtSigSchemeParts self) [] (now (src .entry)) (here w (now (out .entry))) (here r (now (out .exit))) ⌝ }
+        ensures { λ r. ⌜ Walks 4 tpmtSigScheme (tpmtSigSchemeParts self) [] (now (src .entry)) (here w (now (out .entry))) (here r (now (out .exit))) ⌝ }
     {
         let details = self.details;
         details.walk_tagged(self.scheme, w.algorithm(self.scheme, out), src, out)
@@ -375,7 +375,7 @@ impl TpmtRsaScheme {
     }
 
     pub fn walk(self, w: Walk, src: &[u8], out: &mut [u8]) -> Walk
-        ensures { λ r. ⌜ Walks 3 tpmtAsymScheme (tpmtRsaSchemeParts self) [] (now (src .entry)) (here w (now (out .entry))) (here r (now (out .exit))) ⌝ }
+        ensures { λ r. ⌜ Walks 4 tpmtAsymScheme (tpmtRsaSchemeParts self) [] (now (src .entry)) (here w (now (out .entry))) (here r (now (out .exit))) ⌝ }
     {
         let details = self.details;
         details.walk_tagged(self.scheme, w.algorithm(self.scheme, out), src, out)
@@ -458,7 +458,7 @@ impl TpmtEccScheme {
     }
 
     pub fn walk(self, w: Walk, src: &[u8], out: &mut [u8]) -> Walk
-        ensures { λ r. ⌜ Walks 3 tpmtAsymScheme (tpmtEccSchemeParts self) [] (now (src .entry)) (here w (now (out .entry))) (here r (now (out .exit))) ⌝ }
+        ensures { λ r. ⌜ Walks 4 tpmtAsymScheme (tpmtEccSchemeParts self) [] (now (src .entry)) (here w (now (out .entry))) (here r (now (out .exit))) ⌝ }
     {
         let details = self.details;
         details.walk_tagged(self.scheme, w.algorithm(self.scheme, out), src, out)
@@ -541,7 +541,7 @@ impl TpmtRsaDecrypt {
     }
 
     pub fn walk(self, w: Walk, src: &[u8], out: &mut [u8]) -> Walk
-        ensures { λ r. ⌜ Walks 3 tpmtAsymScheme (tpmtRsaDecryptParts self) [] (now (src .entry)) (here w (now (out .entry))) (here r (now (out .exit))) ⌝ }
+        ensures { λ r. ⌜ Walks 4 tpmtAsymScheme (tpmtRsaDecryptParts self) [] (now (src .entry)) (here w (now (out .entry))) (here r (now (out .exit))) ⌝ }
     {
         let details = self.details;
         details.walk_tagged(self.scheme, w.algorithm(self.scheme, out), src, out)

@@ -1,4 +1,6 @@
 // The unions of kinds 3 to 8. Each has the calls that a union has (ciphers, tpmu.rt).
+use crate::tpms::TpmsSchemeEcdaa;
+use crate::tpms::TpmsSchemeEcdaaRead;
 use crate::tpms::TpmsSchemeHash;
 use crate::tpms::TpmsSchemeHashRead;
 use crate::tpms::TpmsSchemeHmac;
@@ -26,6 +28,7 @@ ghost use Rattle.schemes.specs.Answers.{tpmuAsymSchemeAnswer, tpmuSigSch
 
 pub enum TpmuAsymScheme {
     Hash(TpmsSchemeHash),
+    Ecdaa(TpmsSchemeEcdaa),
     Null,
 }
 
@@ -38,6 +41,7 @@ pub enum TpmuKeyedhashScheme {
 pub enum TpmuSigScheme {
     Hash(TpmsSchemeHash),
     Hmac(TpmsSchemeHmac),
+    Ecdaa(TpmsSchemeEcdaa),
     Null,
 }
 
@@ -78,6 +82,14 @@ impl TpmuAsymScheme {
                 if t == registry::NULL {
                     return TpmuAsymSchemeRead::Found(Self::Null, at);
                 }
+                if t == registry::ECDAA {
+                    return match TpmsSchemeEcdaa::unmarshal(s, at) {
+                        TpmsSchemeEcdaaRead::Found(x, e) => {
+                            TpmuAsymSchemeRead::Found(Self::Ecdaa(x), e)
+                        }
+                        TpmsSchemeEcdaaRead::No(f) => TpmuAsymSchemeRead::No(f),
+                    };
+                }
                 match TpmsSchemeHash::unmarshal(s, at) {
                     TpmsSchemeHashRead::Found(x, e) => TpmuAsymSchemeRead::Found(Self::Hash(x), e),
                     TpmsSchemeHashRead::No(f) => TpmuAsymSchemeRead::No(f),
@@ -93,16 +105,18 @@ impl TpmuAsymScheme {
         let chosen = asym_scheme_arm(tag);
         match self {
             Self::Hash(_) => chosen.is(HASH),
+            Self::Ecdaa(_) => chosen.is(registry::ECDAA),
             Self::Null => chosen.is(registry::NULL),
         }
     }
 
     pub fn walk_tagged(self, tag: TpmAlgId, w: Walk, src: &[u8], out: &mut [u8]) -> Walk
-        ensures { λ r. ⌜ Walks 2 (tpmuAsymScheme (tag .0)) (tpmuAsymSchemeParts self) [] (now (src .entry)) (here w (now (out .entry))) (here r (now (out .exit))) ⌝ }
+        ensures { λ r. ⌜ Walks 3 (tpmuAsymScheme (tag .0)) (tpmuAsymSchemeParts self) [] (now (src .entry)) (here w (now (out .entry))) (here r (now (out .exit))) ⌝ }
     {
         let v = w.due(tag.0, asym_scheme_arm(tag), self.matches_tag(tag));
         match self {
             Self::Hash(x) => x.walk(v, src, out),
+            Self::Ecdaa(x) => x.walk(v, src, out),
             Self::Null => v,
         }
     }
@@ -159,6 +173,14 @@ impl TpmuSigScheme {
                 if t == registry::NULL {
                     return TpmuSigSchemeRead::Found(Self::Null, at);
                 }
+                if t == registry::ECDAA {
+                    return match TpmsSchemeEcdaa::unmarshal(s, at) {
+                        TpmsSchemeEcdaaRead::Found(x, e) => {
+                            TpmuSigSchemeRead::Found(Self::Ecdaa(x), e)
+                        }
+                        TpmsSchemeEcdaaRead::No(f) => TpmuSigSchemeRead::No(f),
+                    };
+                }
                 match TpmsSchemeHash::unmarshal(s, at) {
                     TpmsSchemeHashRead::Found(x, e) => {
                         if t == HASH {
@@ -180,17 +202,19 @@ impl TpmuSigScheme {
         match self {
             Self::Hash(_) => chosen.is(HASH),
             Self::Hmac(_) => chosen.is(registry::HMAC),
+            Self::Ecdaa(_) => chosen.is(registry::ECDAA),
             Self::Null => chosen.is(registry::NULL),
         }
     }
 
     pub fn walk_tagged(self, tag: TpmAlgId, w: Walk, src: &[u8], out: &mut [u8]) -> Walk
-        ensures { λ r. ⌜ Walks 2 (tpmuSigScheme (tag .0)) (tpmuSigSchemeParts self) [] (now (src .entry)) (here w (now (out .entry))) (here r (now (out .exit))) ⌝ }
+        ensures { λ r. ⌜ Walks 3 (tpmuSigScheme (tag .0)) (tpmuSigSchemeParts self) [] (now (src .entry)) (here w (now (out .entry))) (here r (now (out .exit))) ⌝ }
     {
         let v = w.due(tag.0, sig_scheme_arm(tag), self.matches_tag(tag));
         match self {
             Self::Hash(x) => x.walk(v, src, out),
             Self::Hmac(x) => x.walk(v, src, out),
+            Self::Ecdaa(x) => x.walk(v, src, out),
             Self::Null => v,
         }
     }

@@ -1,12 +1,10 @@
--- The selector is held against the arm's own code. Assumes nothing.
-use Rattle.format.specs.Kinds.{tpmuSymModeTable, tpmuSymModeArm}
-use Rattle.steps.proofs.Matches.{needs, by-code}
+-- The payload's arm is held against the one that is chosen. Assumes nothing.
+use Rattle.wire.proofs.Search.{needs, is-arm}
 use Rattle.ciphers.specs.Parts.{tpmuSymModeParts}
 use Rattle.ciphers.proofs.tpmu.TpmuSymMode.matches_tag.Tie as tie
 
 pub matches-tag-spec : {M : Type 1} → Rattle.ciphers.proofs.tpmu.TpmuSymMode.matches_tag.Statement.statement M
-unfolding tpmuSymModeArm
 matches-tag-spec = tie.close (tie.spec
-    (search needs) (search needs) (search needs) (search needs) (search needs) (λ c. search (by-code tpmuSymModeParts tpmuSymModeTable))
-    (λ c. search (by-code tpmuSymModeParts tpmuSymModeTable)) (λ c. search (by-code tpmuSymModeParts tpmuSymModeTable))
-    (λ c. search (by-code tpmuSymModeParts tpmuSymModeTable)) (λ c. search (by-code tpmuSymModeParts tpmuSymModeTable)))
+    (search needs) (search needs) (search needs) (search needs) (search needs) (search needs) (search needs) (search needs) (search needs)
+    (λ c. search (is-arm tpmuSymModeParts)) (λ c. search (is-arm tpmuSymModeParts)) (λ c. search (is-arm tpmuSymModeParts))
+    (λ c. search (is-arm tpmuSymModeParts)))

@@ -8,8 +8,7 @@ pub walk-tagged-spec : {M : Type 1} → Rattle.ciphers.proofs.tpmu.Tpmu
 unfolding tpmuSymMode
 walk-tagged-spec = tie.close (tie.spec
     (search needs) (search needs) (search needs) (search needs) (search needs) (search needs) (search needs) (search needs) (search needs) (search needs)
-    (search needs) (search needs) (search needs) (λ c. search (by-arm tpmuSymModeParts tpmuSymModeArm tpmuSymModeBody, walking)) (search needs)
-    (λ c. search (by-arm tpmuSymModeParts tpmuSymModeArm tpmuSymModeBody, walking)) (search needs)
+    (search needs) (λ c. search (by-arm tpmuSymModeParts tpmuSymModeArm tpmuSymModeBody, walking)) (search needs)
     (λ c. search (by-arm tpmuSymModeParts tpmuSymModeArm tpmuSymModeBody, walking)) (search needs)
     (λ c. search (by-arm tpmuSymModeParts tpmuSymModeArm tpmuSymModeBody, walking))
     (λ c. search (by-arm tpmuSymModeParts tpmuSymModeArm tpmuSymModeBody, walking)))

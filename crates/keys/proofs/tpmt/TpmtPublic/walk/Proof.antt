@@ -14,6 +14,6 @@ unfolding tpmtPublic
 walk-spec = tie.close (tie.spec
     (search needs) (search needs) (search needs) (search needs) (search needs) (search needs)
     (λ c. omega (arith, c .before .out6 .given, c .before .before .before .before .before .out5 .given, c .before .before .before .before .before .before .before .before .before .out4 .given, c .before .before .before .before .before .before .before .before .before .before .before .before .before .out3 .given, c .before .before .before .before .before .before .before .before .before .before .before .before .before .before .before .before .before .out2 .given, c .before .before .before .before .before .before .before .before .before .before .before .before .before .before .before .before .before .before .before .before .before .out .given))
-    (λ c. walks-number _ Two alg _ _ (c .before .before .before .before .before .before .before .before .before .before .before .before .before .before .before .before .before .before .before .before .before .before .algorithm .ensures) (walks-number _ {k = 19} Two alg _ _ (c .before .before .before .before .before .before .before .before .before .before .before .before .before .before .before .before .before .before .algorithm2 .ensures)
-    (walks-number _ {k = 18} Four free _ _ (c .before .before .before .before .before .before .before .before .before .before .before .before .before .before .uint32 .ensures) (walks-buffer _ {k = 17} 64 _ refl (c .before .before .before .before .before .before .before .before .before .before .buffer .ensures)
-    (walks-then _ {k = 16} (c .before .before .before .before .before .before .walk-tagged .ensures) (c .before .before .walk-tagged2 .ensures) refl) refl) refl) refl) refl))
+    (λ c. walks-number _ Two alg _ _ (c .before .before .before .before .before .before .before .before .before .before .before .before .before .before .before .before .before .before .before .before .before .before .algorithm .ensures) (walks-number _ {k = 20} Two alg _ _ (c .before .before .before .before .before .before .before .before .before .before .before .before .before .before .before .before .before .before .algorithm2 .ensures)
+    (walks-number _ {k = 19} Four free _ _ (c .before .before .before .before .before .before .before .before .before .before .before .before .before .before .uint32 .ensures) (walks-buffer _ {k = 18} 64 _ refl (c .before .before .before .before .before .before .before .before .before .before .buffer .ensures)
+    (walks-then _ {k = 17} (c .before .before .before .before .before .before .walk-tagged .ensures) (c .before .before .walk-tagged2 .ensures) refl) refl) refl) refl) refl))

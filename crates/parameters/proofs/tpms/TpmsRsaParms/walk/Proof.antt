@@ -11,5 +11,5 @@ pub walk-spec : {M : Type 1} → Rattle.parameters.proofs.tpms.TpmsRsaP
 unfolding tpmsRsaParms
 walk-spec = tie.close (tie.spec
     (search needs) (search needs) (search needs) (search needs) (search needs)
-    (λ c. walks-then _ (c .before .before .before .before .before .before .before .before .before .before .before .before .before .before .walk .ensures) (walks-then _ {k = 5} (c .before .before .before .before .before .before .before .before .before .before .walk2 .ensures)
+    (λ c. walks-then _ (c .before .before .before .before .before .before .before .before .before .before .before .before .before .before .walk .ensures) (walks-then _ {k = 6} (c .before .before .before .before .before .before .before .before .before .before .walk2 .ensures)
     (walks-number _ {k = 2} Two free _ _ (c .before .before .before .before .before .before .uint16 .ensures) (last-number _ {k = 1} Four free _ (c .before .before .uint32 .ensures) refl) refl) refl) refl))

@@ -5,5 +5,5 @@ use Rattle.schemes.proofs.tpmu.TpmuAsymScheme.matches_tag.Tie as tie
 
 pub matches-tag-spec : {M : Type 1} → Rattle.schemes.proofs.tpmu.TpmuAsymScheme.matches_tag.Statement.statement M
 matches-tag-spec = tie.close (tie.spec
-    (search needs) (search needs) (search needs) (search needs) (search needs) (λ c. search (is-arm tpmuAsymSchemeParts))
-    (λ c. search (is-arm tpmuAsymSchemeParts)))
+    (search needs) (search needs) (search needs) (search needs) (search needs) (search needs) (search needs)
+    (λ c. search (is-arm tpmuAsymSchemeParts)) (λ c. search (is-arm tpmuAsymSchemeParts)) (λ c. search (is-arm tpmuAsymSchemeParts)))

@@ -7,6 +7,7 @@ use Rattle.schemes.proofs.tpmu.TpmuAsymScheme.walk_tagged.Tie as tie
 pub walk-tagged-spec : {M : Type 1} → Rattle.schemes.proofs.tpmu.TpmuAsymScheme.walk_tagged.Statement.statement M
 unfolding tpmuAsymScheme
 walk-tagged-spec = tie.close (tie.spec
-    (search needs) (search needs) (search needs) (search needs) (search needs) (search needs) (search needs)
+    (search needs) (search needs) (search needs) (search needs) (search needs) (search needs) (search needs) (search needs) (search needs)
+    (λ c. search (by-arm tpmuAsymSchemeParts tpmuAsymSchemeArm tpmuAsymSchemeBody, walking)) (search needs)
     (λ c. search (by-arm tpmuAsymSchemeParts tpmuAsymSchemeArm tpmuAsymSchemeBody, walking))
     (λ c. search (by-arm tpmuAsymSchemeParts tpmuAsymSchemeArm tpmuAsymSchemeBody, walking)))

@@ -7,7 +7,8 @@ use Rattle.schemes.proofs.tpmu.TpmuSigScheme.walk_tagged.Tie as tie
 pub walk-tagged-spec : {M : Type 1} → Rattle.schemes.proofs.tpmu.TpmuSigScheme.walk_tagged.Statement.statement M
 unfolding tpmuSigScheme
 walk-tagged-spec = tie.close (tie.spec
-    (search needs) (search needs) (search needs) (search needs) (search needs) (search needs) (search needs) (search needs) (search needs)
+    (search needs) (search needs) (search needs) (search needs) (search needs) (search needs) (search needs) (search needs) (search needs) (search needs) (search needs)
+    (λ c. search (by-arm tpmuSigSchemeParts tpmuSigSchemeArm tpmuSigSchemeBody, walking)) (search needs)
     (λ c. search (by-arm tpmuSigSchemeParts tpmuSigSchemeArm tpmuSigSchemeBody, walking)) (search needs)
     (λ c. search (by-arm tpmuSigSchemeParts tpmuSigSchemeArm tpmuSigSchemeBody, walking))
     (λ c. search (by-arm tpmuSigSchemeParts tpmuSigSchemeArm tpmuSigSchemeBody, walking)))
