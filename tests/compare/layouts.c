@@ -35,9 +35,9 @@ static const struct range curves[] = {{0x00, 0x05}, {0x10, 0x11}, {0x20, 0x20}, 
 static const struct range attestations[] = {{0x8014, 0x801A}, {0x801C, 0x801C}, {1, 0}};
 
 const struct field nothing[] = {STOP};
-const struct field a_hash[] = {CODE_OF(HASH), STOP};
-const struct field a_hash_and_a_count[] = {CODE_OF(HASH), NUMBER_OF(2), STOP};
 const struct field key_bits_and_mode[] = {NUMBER_OF(2), CODE_OF(MODE), STOP};
+static const struct field a_hash[] = {CODE_OF(HASH), STOP};
+static const struct field a_hash_and_a_count[] = {CODE_OF(HASH), NUMBER_OF(2), STOP};
 
 const struct arm digest_arms[] = {
     {SHA1, ROW(PLAIN_OF(20))}, {SHAKE256_192, ROW(PLAIN_OF(24))},
@@ -49,7 +49,7 @@ const struct arm digest_arms[] = {
 
 const struct arm cipher_arms[] = {
     {AES, key_bits_and_mode}, {SM4, key_bits_and_mode}, {CAMELLIA, key_bits_and_mode},
-    {XOR, ROW(CODE_OF(HASH), CODE_OF(MODE))}, {NULL_CODE, nothing}, LAST};
+    {XOR, a_hash}, {NULL_CODE, nothing}, LAST};
 
 const struct arm kdf_arms[] = {
     {MGF1, a_hash}, {KDF1_56A, a_hash}, {KDF2, a_hash}, {KDF1_108, a_hash}, {NULL_CODE, nothing}, LAST};
@@ -58,12 +58,12 @@ const struct arm keyedhash_arms[] = {
     {HMAC, a_hash}, {XOR, ROW(CODE_OF(HASH), CODE_OF(KDF))}, {NULL_CODE, nothing}, LAST};
 
 const struct arm signing_arms[] = {
-    {HMAC, a_hash}, {RSASSA, a_hash}, {RSAPSS, a_hash}, {ECDSA, a_hash}, {ECDAA, a_hash}, {SM2, a_hash},
+    {HMAC, a_hash}, {RSASSA, a_hash}, {RSAPSS, a_hash}, {ECDSA, a_hash}, {ECDAA, a_hash_and_a_count}, {SM2, a_hash},
     {ECSCHNORR, a_hash}, {NULL_CODE, nothing}, LAST};
 
 const struct arm asymmetric_arms[] = {
-    {RSASSA, a_hash}, {RSAPSS, a_hash}, {ECDSA, a_hash}, {ECDAA, a_hash}, {SM2, a_hash}, {ECSCHNORR, a_hash},
-    {OAEP, a_hash}, {ECDH, a_hash}, {ECMQV, a_hash}, {RSAES, nothing}, {NULL_CODE, nothing}, LAST};
+    {RSASSA, a_hash}, {RSAPSS, a_hash}, {ECDSA, a_hash}, {ECDAA, a_hash_and_a_count}, {SM2, a_hash},
+    {ECSCHNORR, a_hash}, {OAEP, a_hash}, {ECDH, a_hash}, {ECMQV, a_hash}, {RSAES, nothing}, {NULL_CODE, nothing}, LAST};
 
 static const struct field tagged_digest[] = {CODE_OF(SELECTOR), UNION_OF(digest_arms), STOP};
 static const struct field cipher[] = {CODE_OF(SELECTOR), UNION_OF(cipher_arms), STOP};

@@ -39,7 +39,7 @@ extern const struct arm digest_arms[], cipher_arms[], kdf_arms[], keyedhash_arms
     parameter_arms[], unique_arms[], sensitive_arms[], signature_arms[], attested_arms[];
 
 // Rows of fields that arms are made of.
-extern const struct field nothing[], a_hash[], a_hash_and_a_count[], key_bits_and_mode[];
+extern const struct field nothing[], key_bits_and_mode[];
 
 const struct field *layout_of(int kind);
 const struct field *arm_for(const struct arm *arms, unsigned selector);

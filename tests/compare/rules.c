@@ -114,16 +114,6 @@ static bool nv_digest(const struct field *field, uint64_t value)
     return is_selector(field, attested_arms, value, 0x801C);
 }
 
-static bool xor_cipher(const struct field *field, uint64_t value)
-{
-    return is_selector(field, cipher_arms, value, 0x0A);
-}
-
-static bool ecdaa_scheme(const struct field *field, uint64_t value)
-{
-    return is_selector(field, signing_arms, value, 0x1A) || is_selector(field, asymmetric_arms, value, 0x1A);
-}
-
 const struct rule rules[] = {
     {"hash-not-judged", "it takes any hash code in a scheme or a signature", hash, false, NULL},
     {"kdf-not-judged", "it takes any KDF code in the keyed hash scheme's Xor", kdf, false, NULL},
@@ -146,10 +136,6 @@ const struct rule rules[] = {
     {"no-sha3-shake", "it has no plain digest of SHA3 or SHAKE256", new_digest, true, NULL},
     {"no-kdf2", "its KDF scheme has no KDF2", kdf2, true, NULL},
     {"no-nv-digest", "it has no attestation type 801C", nv_digest, true, NULL},
-    {"xor-without-mode", "its cipher Xor has a hash alone, as in Part 2; the format's has a mode", xor_cipher, false,
-     a_hash},
-    {"ecdaa-with-count", "its scheme Ecdaa has a count behind the hash, as in Part 2; the format's has none",
-     ecdaa_scheme, false, a_hash_and_a_count},
 };
 
 const int rule_count = sizeof rules / sizeof *rules;

@@ -9,8 +9,8 @@ struct rule {
     const char *reason;
     // Whether libtss2-mu goes another way at this field, given its code, number, length or, at a union, the selector.
     bool (*parts_at)(const struct field *field, uint64_t value);
-    bool refuses; // it refuses where the format reads; otherwise it reads on where the format refuses or reads otherwise
-    const struct field *arm; // at a union: the fields that it reads there
+    bool refuses; // it refuses where the format reads; otherwise it reads on where the format refuses
+    const struct field *arm; // at a union where it reads on: the fields that it reads there
 };
 
 enum { NO_RULE = -1 };
