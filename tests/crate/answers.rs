@@ -3,6 +3,7 @@
 use std::fs::File;
 use std::io::{BufRead, BufReader, Lines};
 
+#[derive(PartialEq)]
 pub enum Ours {
     Read { consumed: usize, tail: usize, fields: String, again: String },
     /// `had` is what the line says behind the value, if it says anything there.

@@ -6,7 +6,7 @@ The frame is that of our program `calls` (tests/vectors/README.md has its bytes)
 from itertools import product
 from typing import NamedTuple
 
-from held import ARMS, CRATE_CAPACITY, INSIDE, TAGS, UNION_OF_KIND, Held, Reader
+from held import CRATE_CAPACITY, CRATES, ECDAA, INSIDE, OURS, TAGS, UNION_OF_KIND, XOR, Held, OtherArm, Unread, arms, has_two_forms
 from inputs import ALGS, Maker, be
 
 ENOUGH = 4096
@@ -77,12 +77,13 @@ def items_of(kind, data):
 
 
 def records(maker, kind, each):
-    """Legal records of the kind: `each` for each of its selectors, with no more items than the crate has room for."""
+    """Legal records of the kind: `each` for each of its selectors, with no more items than the crate has room for, and in kinds 9 and 11, where
+    Xor and Ecdaa stand further in, without these."""
     found = {}
     for _ in range(4000):
         data = maker.record(kind)
         held = found.setdefault(own_selector(kind, data), [])
-        if len(held) < each and (items_of(kind, data) or 0) <= CRATE_CAPACITY:
+        if len(held) < each and (items_of(kind, data) or 0) <= CRATE_CAPACITY and not (kind in (9, 11) and has_two_forms(kind, data)):
             held.append(data)
     return found
 
@@ -101,10 +102,10 @@ def placed(r, kind, selector, room, first, second=b'', index=NO_INDEX):
 
 
 def relabelled(r, maker):
-    """Every arm under every code; of kinds 2 and 11 with the last union of each other arm."""
+    """Every arm under every code; of kinds 2 and 11 with the last union of each other arm. (Xor's mode is Null's arm, and the crate's another.)"""
     for kind in range(1, 14):
         found = records(maker, kind, 4 if kind in (9, 11) else 3)
-        seconds = [held[0] for held in found.values()] if kind in (2, 11) else [b'']
+        seconds = [held[0] for held in found.values() if not has_two_forms(kind, held[0])] if kind in (2, 11) else [b'']
         for first in (data for held in found.values() for data in held):
             for second in seconds:
                 for code in TAGS if kind == 13 else ALGS:
@@ -114,18 +115,19 @@ def relabelled(r, maker):
 
 def relabelled_inside(r, maker):
     """Every arm further in under every code."""
-    for kind, (outer, arm, _) in INSIDE.items():
-        for data in with_arm(maker, outer, arm, 60):
+    for kind in INSIDE:
+        for data in for_inside(maker, kind, 60):
             for code in ALGS:
                 for room in sorted({ENOUGH, r.choice(sorted(rooms(r, len(data))))}):
                     yield placed(r, kind, code, room, data)
 
 
-def with_arm(maker, kind, arm, count):
+def for_inside(maker, kind, count):
+    """Records for kinds 21 to 27. Xor and Ecdaa stand nowhere but where the selector is replaced."""
     found = []
     while len(found) < count:
-        data = maker.record(kind)
-        if Held(kind, own_selector(kind, data), data, data).record.unions()[0].arm == arm:
+        data = maker.record(INSIDE[kind][0])
+        if any(not {XOR, ECDAA} & set(held.selectors_around()) for held in held_by(kind, data)):
             found.append(data)
     return found
 
@@ -140,8 +142,8 @@ def indexed(r, maker):
             for index in range(max(4, items_of(kind, first) or 0) + 1):
                 for code in (own_selector(kind, first), r.choice(TAGS if kind == 13 else ALGS)):
                     yield placed(r, kind, code, r.choice((ENOUGH, len(first), 0)), first, second, index)
-    for kind, (outer, arm, _) in INSIDE.items():
-        for data in with_arm(maker, outer, arm, 20):
+    for kind in INSIDE:
+        for data in for_inside(maker, kind, 20):
             yield placed(r, kind, r.choice(ALGS), ENOUGH, data, b'', r.randrange(2))
 
 
@@ -157,39 +159,52 @@ def lists(r, maker):
             yield placed(r, 13, own_selector(13, data), ENOUGH, data)
 
 
+def two_forms(r, maker):
+    """Records with Xor or Ecdaa wherever these can stand, in our form and in the crate's, also where the other side reads none. In kind 2 the
+    mode that Xor has in the crate meets every code. One case in four asks by index: the tails are two bytes apart in any case."""
+    for form, own_maker in ((OURS, maker), (CRATES, Maker(r, is_crates=True))):
+        for kind in (2, *range(5, 10), 11, *range(23, 28)):
+            for first in with_two_forms(own_maker, kind, form, 6 if kind == 2 else 16):
+                own = Held(kind, 0, first, first, form).own
+                for second in (first, maker.record(kind)) if kind in (2, 11) else (b'',):
+                    for code in ALGS if kind == 2 else (own, *r.sample(ALGS, 5)):
+                        for room in sorted(rooms(r, len(first))):
+                            yield placed(r, kind, code, room, first, second, r.choice((NO_INDEX, NO_INDEX, NO_INDEX, r.randrange(2))))
+
+
+def with_two_forms(maker, kind, form, count):
+    found = []
+    while len(found) < count:
+        data = maker.record(INSIDE.get(kind, (kind,))[0])
+        if any(has_two_forms(held.outer, data) for held in held_by(kind, data, form)):
+            found.append(data)
+    return found
+
+
 def made(r):
     maker = Maker(r)
-    for sort in (relabelled, relabelled_inside, indexed, lists):
+    for sort in (relabelled, relabelled_inside, indexed, lists, two_forms):
         yield from sort(r, maker)
 
 
-class Counting(Reader):
-    """Counts the byte fields that it reads: a digest, a buffer, a list as a whole."""
-
-    fields = 0
-
-    def buffers(self, count):
-        self.fields += count
-        return super().buffers(count)
-
-    def items(self):
-        self.fields += 1
-        return super().items()
-
-    def arm(self, name, arm):
-        self.fields += name == 'digest' and arm != 'Null'
-        return super().arm(name, arm)
+def held_by(kind, data, form=OURS):
+    """The record for that kind, twice the same where two are asked for; none if it holds another arm."""
+    try:
+        return [Held(kind, 0, data, data, form)]
+    except OtherArm:
+        return []
 
 
-def byte_fields(case):
-    """How many byte fields the record has. In kind 11 the last are those of the second record; ahead of them both have the same."""
-    reader = Counting(case.second if case.kind == 11 else case.first)
-    reader.record(case.kind)
-    return reader.fields
+def read_by_us(case):
+    """The record of a case; none if we do not read it."""
+    try:
+        return [Held(case.kind, case.selector, case.first, case.second)]
+    except Unread:
+        return []
 
 
 def arms_of(name):
-    return sorted(set(ARMS[name].values()))
+    return sorted(set(arms(OURS)[name].values()))
 
 
 def wanted_arms():
@@ -203,9 +218,10 @@ def wanted_arms():
 
 
 def met_arms(case):
-    arms = tuple(union.arm for union in Held(case.kind, case.selector, case.first, case.second).target.unions())
-    yield from ((case.kind, turn, arm, case.selector) for turn, arm in enumerate(arms))
-    yield case.kind, 'both', arms, case.selector
+    for held in read_by_us(case):
+        met = tuple(union.arm for union in held.target.unions())
+        yield from ((case.kind, turn, arm, case.selector) for turn, arm in enumerate(met))
+        yield case.kind, 'both', met, case.selector
 
 
 def wanted_indices():
@@ -216,16 +232,17 @@ def wanted_indices():
 
 
 def met_indices(case):
-    fields, items = byte_fields(case), items_of(case.kind, case.first) or 0
-    yield (case.kind, 'field', case.index) if case.index < fields else (case.kind, 'no field', None)
-    yield (case.kind, 'item', case.index) if case.index < items else (case.kind, 'no item', None)
+    for held in read_by_us(case):
+        items = held.items() or 0 if case.kind in (13, 14) else 0
+        yield (case.kind, 'field', case.index) if case.index < len(held.byte_fields) else (case.kind, 'no field', None)
+        yield (case.kind, 'item', case.index) if case.index < items else (case.kind, 'no item', None)
 
 
 def require_complete(made):
     """Stops unless every arm met every code where there was room enough, and everything that can be asked by index was asked."""
-    arms = {key for case in made if case.kind in UNIONS and case.room == ENOUGH for key in met_arms(case)}
+    under = {key for case in made if case.kind in UNIONS and case.room == ENOUGH for key in met_arms(case)}
     indices = {key for case in made if case.kind in range(1, 15) and case.has_index for key in met_indices(case)}
-    for what, wanted, met in (('arm under a code', wanted_arms(), arms), ('index', wanted_indices(), indices)):
+    for what, wanted, met in (('arm under a code', wanted_arms(), under), ('index', wanted_indices(), indices)):
         missing = [key for key in wanted if key not in met]
         if missing:
             raise SystemExit(f'tests/crate/cases.py: {len(missing)} times no case has the {what}; the first is {missing[0]}')

@@ -180,14 +180,10 @@ fn places(t: &mut Tally) {
 
 fn settled(t: &mut Tally) {
     t.text("1 reading stops after a Null cipher", read::<TpmtSymDef>("0010 0080 0043"), consumed(2, "00800043"));
-    t.text("1, 3 Xor has a mode: 000A 000B 0043, 6 bytes", read::<TpmtSymDef>("000a 000b 0043"), consumed(6, ""));
-    t.rebuilt("1, 3 Xor has a mode: 000A 000B is short", read::<TpmtSymDef>("000a 000b"), end(0, 2, 0));
     t.rebuilt("1 kind 11: the fields ahead of an arm are judged first", read::<TpmtPublic>("0004 0002"), fault(Fault::Code, 0, 2));
     t.rebuilt("1 kind 12: the fields ahead of an arm are judged first", read::<TpmtSensitive>("0010 0000"), end(0, 2, 0));
     let longest = format!("000d{}", "00".repeat(64));
     t.rebuilt("1 kind 1, 000D and 64 bytes: read, 66 bytes", read::<TpmtHa>(&longest), consumed(66, ""));
-    t.rebuilt("3 kind 5, 001A 000B 0000: Ecdaa has no count", read::<TpmtSigScheme>("001a 000b 0000"), consumed(4, "0000"));
-    t.rebuilt("3 kind 7, 001A 000B 0000: Ecdaa has no count", read::<TpmtEccScheme>("001a 000b 0000"), consumed(4, "0000"));
     let unique = format!("0025 000b 00000000 0000 0006 0080 0043 0021{}", "00".repeat(33));
     t.rebuilt("3 kind 11: the unique part of a SymCipher object is a key", read::<TpmtPublic>(&unique), fault(Fault::Length, 0, 33));
     t.text("4 kind 2, 0003 00C0 0043: TDES has no arm", read::<TpmtSymDef>("0003 00c0 0043"), no_arm(0, 3));
@@ -203,10 +199,10 @@ fn all_codes<T: TryFrom<u16>>() -> Vec<T> {
 
 fn arms(t: &mut Tally) {
     let hash = TpmsSchemeHash { hash_alg: TpmAlgId::Sha256 };
-    let signing = [TpmAlgId::Rsassa, TpmAlgId::Rsapss, TpmAlgId::Ecdsa, TpmAlgId::Ecdaa, TpmAlgId::Sm2, TpmAlgId::Ecschnorr];
+    let signing = [TpmAlgId::Rsassa, TpmAlgId::Rsapss, TpmAlgId::Ecdsa, TpmAlgId::Sm2, TpmAlgId::Ecschnorr];
     t.text("2.5 signing scheme: Hash under Hmac, no", TpmuSigScheme::Hash(hash).matches_tag(TpmAlgId::Hmac), false);
     t.text("2.5 signing scheme: Hmac under Rsassa, no", TpmuSigScheme::Hmac(hash).matches_tag(TpmAlgId::Rsassa), false);
-    t.text("2.5 signing scheme: Hash under the six, yes", signing.map(|code| TpmuSigScheme::Hash(hash).matches_tag(code)), [true; 6]);
+    t.text("2.5 signing scheme: Hash under the five, yes", signing.map(|code| TpmuSigScheme::Hash(hash).matches_tag(code)), [true; 5]);
     t.text("2.5 asymmetric scheme: Null under Rsaes, yes", TpmuAsymScheme::Null.matches_tag(TpmAlgId::Rsaes), true);
     let rsassa = TpmuSignature::Rsassa(TpmsSignatureRsa::default());
     t.text("2.5 signature: Rsassa under Rsapss, no", rsassa.matches_tag(TpmAlgId::Rsapss), false);
@@ -332,9 +328,41 @@ fn sizes(t: &mut Tally) {
     t.text("2.8 kind 14: 4 + 8 times an item's SIZE", TpmlPcrSelection::SIZE, 4 + 8 * TpmsPcrSelection::SIZE);
 }
 
+/// The two arms that are another thing here: Xor has a mode in the crate, and Ecdaa no count.
+fn two_forms(t: &mut Tally) {
+    t.text("2.10 kind 2, 000A 000B 0043: read, 6 bytes", read::<TpmtSymDef>("000a 000b 0043"), consumed(6, ""));
+    t.rebuilt("2.10 kind 2, 000A 000B: the mode is cut", read::<TpmtSymDef>("000a 000b"), end(0, 2, 0));
+    t.rebuilt("2.10 kind 2, 000A 000B 0002: the mode is not listed", read::<TpmtSymDef>("000a 000b 0002"), fault(Fault::Code, 0, 2));
+    t.rebuilt("2.10 kind 9, 0025 000A 000B: the mode is cut", read::<TpmtPublicParms>("0025 000a 000b"), end(2, 2, 0));
+    let by_unmarshal: [fn(&str) -> Read; 4] = [read::<TpmtSigScheme>, read::<TpmtRsaScheme>, read::<TpmtEccScheme>, read::<TpmtRsaDecrypt>];
+    let four = |tail: &str| std::array::from_fn(|_| consumed(4, tail));
+    t.rebuilt("2.10 kinds 5 to 8, 001A 000B: read, 4 bytes", by_unmarshal.map(|call| call("001a 000b")), four(""));
+    t.rebuilt("2.10 kinds 5 to 8, 001A 000B 0001: 4 bytes, tail 0001", by_unmarshal.map(|call| call("001a 000b 0001")), four("0001"));
+    let key = TpmtPublicParms::unmarshal(&bytes("0023 0010 001a 000b 0000 0010 0010")).map(|(record, tail)| (record.parameters, hex(tail)));
+    let hash = TpmsSchemeHash { hash_alg: TpmAlgId::Sha256 };
+    let scheme = TpmtEccScheme { scheme: TpmAlgId::Ecdaa, details: TpmuAsymScheme::Hash(hash) };
+    let scrambled = TpmsEccParms { scheme, curve_id: TpmEccCurve::None, ..TpmsEccParms::default() };
+    t.rebuilt("2.10 kind 9, Ecdaa: the count is the curve, the curve the KDF", key, Ok((TpmuPublicParms::Ecc(scrambled), "0010".to_string())));
+    let area = "0023 000b 00000000 0000 0010 001a 000b 0001 0003 0010 0001aa 0001bb";
+    t.rebuilt("2.10 kind 11, Ecdaa: offset 2, value 3, the curve for the KDF", read::<TpmtPublic>(area), no_arm(2, 3));
+    let mode = TpmuSymMode::Xor(TpmAlgId::Cfb);
+    let says = [mode.matches_tag(TpmAlgId::Xor), TpmuSymMode::Null.matches_tag(TpmAlgId::Xor)];
+    t.text("2.10 mode under Xor: Xor, yes; Null, no", says, [true, false]);
+    let says = [TpmuAsymScheme::Hash(hash).matches_tag(TpmAlgId::Ecdaa), TpmuSigScheme::Hash(hash).matches_tag(TpmAlgId::Ecdaa)];
+    t.text("2.10 Hash under Ecdaa, yes in both unions", says, [true; 2]);
+    let xor = |mode| written(&cipher(TpmAlgId::Xor, TpmuSymKeyBits::Xor(TpmAlgId::Sha256), mode), 9);
+    t.text("2.10 kind 2, Xor with mode Null: offset 0, value 10", xor(TpmuSymMode::Null), not_its_arm(0, 10, ""));
+    t.text("2.10 kind 2, Xor with mode Xor: writes 000A 000B 0043", xor(mode), (Ok(()), "000a000b0043".to_string()));
+    let signing = TpmtSigScheme { scheme: TpmAlgId::Ecdaa, details: TpmuSigScheme::Hash(hash) };
+    let TpmtEccScheme { scheme: tag, details } = scheme;
+    let (rsa, decrypt) = (TpmtRsaScheme { scheme: tag, details }, TpmtRsaDecrypt { scheme: tag, details });
+    let four = [written(&signing, 9), written(&rsa, 9), written(&scheme, 9), written(&decrypt, 9)];
+    t.rebuilt("2.10 kinds 5 to 8, Ecdaa with Hash: writes 001A 000B", four, std::array::from_fn(|_| (Ok(()), "001a000b".to_string())));
+}
+
 fn main() {
     let mut t = Tally::default();
-    for part in [lists, tails, available, places, settled, arms, wrong_arms, room, owned, sizes] {
+    for part in [lists, tails, available, places, settled, arms, wrong_arms, room, owned, sizes, two_forms] {
         part(&mut t);
     }
     println!("{} claims hold by the text, {} more with a rebuilt module, {} fail", t.text, t.rebuilt, t.failed);

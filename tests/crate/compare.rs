@@ -4,6 +4,7 @@
 //! difference but those of listed.rs; with `same`, only if there was none at all.
 
 mod answers;
+mod forms;
 mod listed;
 mod tables;
 mod words;
@@ -41,9 +42,15 @@ fn unlike_records(input: &str, ours: &Ours, crates: &Crates) -> Vec<&'static str
     unlike
 }
 
+/// What is cut is the count of Ecdaa: a second field, which the adapted text alone has in these kinds.
+fn is_count(kind: u32, input: &str, number: u64) -> bool {
+    number == SHORT && (5..=8).contains(&kind) && input.starts_with("001a") && input.len() >= 8
+}
+
 /// Elsewhere the crate counts from a later start, so that its offset is at most our place; and that lies in the input or at its end.
-fn fits(kind: u32, input: &str, place: usize, offset: usize) -> bool {
-    if ONE_PLACE.contains(&kind) { place == offset } else { (offset..=input.len() / 2).contains(&place) }
+fn fits(kind: u32, input: &str, number: u64, place: usize, offset: usize) -> bool {
+    let is_exact = ONE_PLACE.contains(&kind) && !is_count(kind, input, number);
+    if is_exact { place == offset } else { (offset..=input.len() / 2).contains(&place) }
 }
 
 /// Short says how many bytes the input has from its place on; no other refusal says anything of that.
@@ -63,7 +70,7 @@ fn unlike(kind: u32, input: &str, ours: &Ours, crates: &Crates) -> Option<String
             if had.unwrap_or(0) != *h {
                 return Some("both refuse, with another number of bytes there".to_string());
             }
-            (!fits(kind, input, *place, *offset)).then(|| "both refuse, at another place".to_string())
+            (!fits(kind, input, *number, *place, *offset)).then(|| "both refuse, at another place".to_string())
         }
         (Ours::Read { .. }, Crates::Read { .. }) => {
             let unlike = unlike_records(input, ours, crates);
@@ -105,7 +112,7 @@ fn main() {
         }
         let class = if has_classes { class(kind, &unhex(input).expect("hex")) } else { None };
         let how = wrong_had(input, &ours).or_else(|| match &class {
-            Some(class) => (!class.holds(&ours, &crates)).then(|| format!("not as {} has it", class.name)),
+            Some(class) => (!class.holds(kind, input, &ours, &crates)).then(|| format!("not as {} has it", class.name)),
             None => unlike(kind, input, &ours, &crates),
         });
         match (how, class) {

@@ -76,9 +76,9 @@ macro_rules! code { ($($ty:ty: $size:literal),*) => { $(impl Fields for $ty {
 macro_rules! fields { ($by:ident: $($ty:ty { $($field:ident),* })*) => { $(impl Fields for $ty {
     fn list(&self, out: &mut Lines) { out.under($by, |out| { $(self.$field.list(out);)* }); }
 })* } }
-macro_rules! arms { ($by:ident: $($ty:ty { $($arm:ident),* $(; $null:ident)? })*) => { $(impl Fields for $ty {
+macro_rules! arms { ($by:ident: $($ty:ty { $($(#[$only:meta])? $arm:ident),* $(; $null:ident)? })*) => { $(impl Fields for $ty {
     fn list(&self, out: &mut Lines) {
-        out.under($by, |out| match self { $(Self::$arm(held) => held.list(out),)* $(Self::$null => {})? });
+        out.under($by, |out| match self { $($(#[$only])? Self::$arm(held) => held.list(out),)* $(Self::$null => {})? });
     }
 })* } }
 
@@ -139,9 +139,9 @@ impl Fields for TpmsPcrSelect {
 }
 
 arms! { TEXT:
-    TpmuAsymScheme { Hash; Null }
+    TpmuAsymScheme { Hash, #[cfg(adapted)] Ecdaa; Null }
     TpmuKeyedhashScheme { Hmac, Xor; Null }
-    TpmuSigScheme { Hash, Hmac; Null }
+    TpmuSigScheme { Hash, Hmac, #[cfg(adapted)] Ecdaa; Null }
     TpmuKdfScheme { Mgf1, Kdf1Sp800_56a, Kdf2, Kdf1Sp800_108; Null }
     TpmuSymKeyBits { Aes, Sm4, Camellia, Xor; Null }
     TpmuSymMode { Aes, Sm4, Camellia, Xor; Null }
@@ -188,6 +188,11 @@ fields! { REBUILT:
     TpmsNvCertifyInfo { index_name, offset, nv_contents }
     TpmsNvDigestCertifyInfo { index_name, nv_digest }
     TpmsPcrSelection { hash, pcr_select }
+}
+
+#[cfg(adapted)]
+fields! { REBUILT:
+    TpmsSchemeEcdaa { hash_alg, count }
 }
 
 impl Fields for TpmsAttest {

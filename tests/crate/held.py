@@ -2,38 +2,62 @@
 
 The layouts and arms are those of docs/FORMAT.md (sections 6 and 7), the answers those of its section 9 for our side and of
 docs/DIFFERENCES.md (2.5, 2.6) for the crate's. Which class a case belongs to is decided here, from the case alone: what is held, the
-selector, the room.
+selector, the room. Two arms have another form in the crate (2.10); a record can be taken apart with them in either form.
 """
 
-from inputs import ALGS, ATTEST, DIGESTS, be
+from functools import cache
+from typing import NamedTuple
 
-NULL = 0x10
-HASHED = (0x14, 0x16, 0x18, 0x1A, 0x1B, 0x1C)
-CIPHERS = {0x06: 'Aes', 0x13: 'Sm4', 0x26: 'Camellia', 0x0A: 'Xor', NULL: 'Null'}
+from inputs import ALGS, ATTEST, CURVES, DIGESTS, be
+
+XOR, NULL, ECDAA = 0x0A, 0x10, 0x1A
+HASHED = (0x14, 0x16, 0x18, ECDAA, 0x1B, 0x1C)
+CIPHERS = {0x06: 'Aes', 0x13: 'Sm4', 0x26: 'Camellia', XOR: 'Xor', NULL: 'Null'}
 OBJECTS = {0x08: 'KeyedHash', 0x25: 'SymCipher', 0x01: 'Rsa', 0x23: 'Ecc', NULL: 'Null'}
 
-# Which arm a selector chooses. A digest's length is part of its arm.
-ARMS = {
-    'digest': {code: f'Digest of {size}' if size else 'Null' for code, size in DIGESTS.items()},
-    'key bits': CIPHERS,
-    'mode': CIPHERS,
-    'kdf': {0x07: 'Mgf1', 0x20: 'Kdf1Sp800_56a', 0x21: 'Kdf2', 0x22: 'Kdf1Sp800_108', NULL: 'Null'},
-    'keyed hash': {0x05: 'Hmac', 0x0A: 'Xor', NULL: 'Null'},
-    'signing': {0x05: 'Hmac', NULL: 'Null', **dict.fromkeys(HASHED, 'Hash')},
-    'asymmetric': {0x15: 'Null', NULL: 'Null', **dict.fromkeys((*HASHED, 0x17, 0x19, 0x1D), 'Hash')},
-    'parameters': OBJECTS,
-    'unique': OBJECTS,
-    'sensitive': {0x01: 'Rsa', 0x23: 'Ecc', 0x08: 'Bits', 0x25: 'Sym'},
-    'signature': {0x14: 'Rsassa', 0x16: 'Rsapss', 0x18: 'Ecdsa', 0x1A: 'Ecdaa', 0x1B: 'Sm2', 0x1C: 'Ecschnorr', 0x05: 'Hmac', NULL: 'Null'},
-    'attestation': {0x8014: 'Nv', 0x8015: 'CommandAudit', 0x8016: 'SessionAudit', 0x8017: 'Certify', 0x8018: 'Quote', 0x8019: 'Time',
-                    0x801A: 'Creation', 0x801C: 'NvDigest'},
-}
+
+class Form(NamedTuple):
+    """How the two arms are laid out: whether the cipher Xor has a mode, and whether the scheme Ecdaa has a count."""
+    has_mode: bool
+    has_count: bool
+
+
+CRATES, OURS = Form(True, False), Form(False, True)
+
+
+@cache
+def arms(form):
+    """Of each union, which arm a selector chooses. A digest's length is part of its arm."""
+    ecdaa = {ECDAA: 'Ecdaa'} if form.has_count else {}
+    return {
+        'digest': {code: f'Digest of {size}' if size else 'Null' for code, size in DIGESTS.items()},
+        'key bits': CIPHERS,
+        'mode': CIPHERS if form.has_mode else {**CIPHERS, XOR: 'Null'},
+        'kdf': {0x07: 'Mgf1', 0x20: 'Kdf1Sp800_56a', 0x21: 'Kdf2', 0x22: 'Kdf1Sp800_108', NULL: 'Null'},
+        'keyed hash': {0x05: 'Hmac', XOR: 'Xor', NULL: 'Null'},
+        'signing': {0x05: 'Hmac', NULL: 'Null', **dict.fromkeys(HASHED, 'Hash'), **ecdaa},
+        'asymmetric': {0x15: 'Null', NULL: 'Null', **dict.fromkeys((*HASHED, 0x17, 0x19, 0x1D), 'Hash'), **ecdaa},
+        'parameters': OBJECTS,
+        'unique': OBJECTS,
+        'sensitive': {0x01: 'Rsa', 0x23: 'Ecc', 0x08: 'Bits', 0x25: 'Sym'},
+        'signature': {0x14: 'Rsassa', 0x16: 'Rsapss', 0x18: 'Ecdsa', ECDAA: 'Ecdaa', 0x1B: 'Sm2', 0x1C: 'Ecschnorr', 0x05: 'Hmac', NULL: 'Null'},
+        'attestation': {0x8014: 'Nv', 0x8015: 'CommandAudit', 0x8016: 'SessionAudit', 0x8017: 'Certify', 0x8018: 'Quote', 0x8019: 'Time',
+                        0x801A: 'Creation', 0x801C: 'NvDigest'},
+    }
+
+
 UNION_OF_KIND = {1: 'digest', 3: 'kdf', 4: 'keyed hash', 5: 'signing', 6: 'asymmetric', 7: 'asymmetric', 8: 'asymmetric',
                  9: 'parameters', 10: 'signature'}
 
 # Kinds 21 to 27: the kind that is read, the arm that it must hold, and which part of that arm has the selector.
 INSIDE = {21: (10, 'Hmac', 0), 22: (9, 'KeyedHash', 0), 23: (9, 'SymCipher', 0), 24: (9, 'Rsa', 0), 25: (9, 'Rsa', 1),
           26: (9, 'Ecc', 1), 27: (9, 'Ecc', 3)}
+
+# The limits of the buffers in two unions.
+LIMITS = {
+    ('unique', 'KeyedHash'): (64,), ('unique', 'SymCipher'): (32,), ('unique', 'Rsa'): (512,), ('unique', 'Ecc'): (66, 66),
+    ('sensitive', 'Rsa'): (256,), ('sensitive', 'Ecc'): (66,), ('sensitive', 'Bits'): (256,), ('sensitive', 'Sym'): (32,),
+}
 
 # The structure tags that the crate's TpmSt has here (rebuilt/data/enum.rs).
 TAGS = [0xC4, 0x8000, 0x8001, 0x8002, *ATTEST, 0x8021, 0x8022, 0x8023, 0x8024, 0x8025, 0x8029]
@@ -43,11 +67,13 @@ SELECTOR = 'selector'
 
 
 class Union:
-    def __init__(self, name, arm, parts):
-        self.name, self.arm, self.parts = name, arm, parts
+    """ARMS says which arm a selector chooses; ARM is the one that is held."""
+
+    def __init__(self, name, arms, arm, parts):
+        self.name, self.arms, self.arm, self.parts = name, arms, arm, parts
 
     def chosen_by(self, selector):
-        return ARMS[self.name].get(selector) == self.arm
+        return self.arms.get(selector) == self.arm
 
 
 class Structure:
@@ -66,62 +92,98 @@ class Structure:
         return all(union.chosen_by(self.selector) for union in self.unions())
 
 
-class Reader:
-    """Takes a legal record apart."""
+class Unread(ValueError):
+    """Which record is refused, the crate's name or fault, the value, and how many bytes there were; 0 if nothing is cut."""
 
-    def __init__(self, data, at=0):
-        self.data, self.at = data, at
+
+class OtherArm(ValueError):
+    """Kinds 21 to 27 find another arm than the one that they are for."""
+
+
+class Reader:
+    """Takes a record apart, with the two arms in that form, and keeps its byte fields. What a record of kind 2, 5 to 9 or 11 is refused for is
+    raised; of the other kinds a record is taken to be legal."""
+
+    def __init__(self, data, form=OURS, which='first'):
+        self.data, self.arms, self.which = data, arms(form), which
+        self.at, self.byte_fields = 0, []
+
+    def refuse(self, name, value, had=0):
+        raise Unread(self.which, name, value, had)
 
     def take(self, size):
         piece = self.data[self.at:self.at + size]
         if len(piece) < size:
-            raise ValueError('the record is cut')
+            self.refuse('End', size, len(piece))
         self.at += size
         return piece
 
-    def code(self):
+    def body(self, size):
+        self.byte_fields.append(self.take(size))
+        return self.byte_fields[-1]
+
+    def number(self):
         return int.from_bytes(self.take(2), 'big')
+
+    def code(self, listed=ALGS):
+        value = self.number()
+        if value not in listed:
+            self.refuse('Code', value)
+        return be(value, 2)
+
+    def selector(self):
+        return int.from_bytes(self.code(), 'big')
 
     def numbers(self, *sizes):
         return [self.take(size) for size in sizes]
 
-    def buffers(self, count):
+    def buffers(self, *limits):
         parts = []
-        for _ in range(count):
-            length = self.take(2)
-            parts += [length, self.take(int.from_bytes(length, 'big'))]
+        for limit in limits:
+            length = self.number()
+            if length > limit:
+                self.refuse('Length', length)
+            parts += [be(length, 2), self.body(length)]
         return parts
 
     def clock(self):
         return self.numbers(8, 4, 4, 1)
 
     def items(self):
-        parts = [self.take(4)]
+        start, parts = self.at, [self.take(4)]
         for _ in range(int.from_bytes(parts[0], 'big')):
             parts += self.numbers(2, 1)
             parts.append(self.take(parts[-1][0]))
+        self.byte_fields.append(self.data[start:self.at])
         return parts
 
     def union(self, name, selector):
-        arm = ARMS[name].get(selector)
+        arm = self.arms[name].get(selector)
         if arm is None:
-            raise ValueError('the selector has no arm')
-        return Union(name, arm, self.arm(name, arm))
+            self.refuse('VariantNotAvailable', selector)
+        return Union(name, self.arms[name], arm, self.arm(name, arm))
 
     def arm(self, name, arm):
         if arm == 'Null':
             return []
         if name == 'digest':
-            return [self.take(int(arm.split()[-1]))]
+            return [self.body(int(arm.split()[-1]))]
+        if name == 'key bits' and arm != 'Xor':
+            return self.numbers(2)
         if name in ('key bits', 'mode', 'kdf', 'signing', 'asymmetric', 'keyed hash'):
-            return self.numbers(*((2, 2) if name == 'keyed hash' and arm == 'Xor' else (2,)))
+            parts = [self.code()]
+            if arm == 'Ecdaa':
+                parts += self.numbers(2)
+            if (name, arm) == ('keyed hash', 'Xor'):
+                parts.append(self.code())
+            return parts
         if name == 'parameters':
             return self.parameters(arm)
         if name == 'signature':
-            return [self.tagged('digest')] if arm == 'Hmac' else self.numbers(2) + self.buffers(1 if arm.startswith('Rsa') else 2)
+            return [self.tagged('digest')] if arm == 'Hmac' else [self.code(), *self.buffers(*((512,) if arm.startswith('Rsa') else (66, 66)))]
         if name == 'attestation':
             return self.attested(arm)
-        return self.buffers(2 if (name, arm) == ('unique', 'Ecc') else 1)
+        return self.buffers(*LIMITS[name, arm])
 
     def parameters(self, arm):
         if arm == 'KeyedHash':
@@ -130,26 +192,28 @@ class Reader:
         if arm == 'Rsa':
             parts += [self.tagged('asymmetric'), *self.numbers(2, 4)]
         if arm == 'Ecc':
-            parts += [self.tagged('asymmetric'), *self.numbers(2), self.tagged('kdf')]
+            parts += [self.tagged('asymmetric'), self.code(CURVES), self.tagged('kdf')]
         return parts
 
     def attested(self, arm):
         if arm == 'Quote':
-            return self.items() + self.buffers(1)
+            return self.items() + self.buffers(64)
         if arm == 'CommandAudit':
-            return self.numbers(8, 2) + self.buffers(2)
+            return [*self.numbers(8), self.code(), *self.buffers(64, 64)]
         if arm == 'SessionAudit':
-            return self.numbers(1) + self.buffers(1)
+            return self.numbers(1) + self.buffers(64)
         if arm == 'Time':
             return self.numbers(8) + self.clock() + self.numbers(8)
-        return self.buffers(1) + self.numbers(2) + self.buffers(1) if arm == 'Nv' else self.buffers(2)
+        if arm == 'Nv':
+            return self.buffers(66) + self.numbers(2) + self.buffers(2048)
+        return self.buffers(66, 66 if arm == 'Certify' else 64)
 
     def tagged(self, name):
-        selector = self.code()
+        selector = self.selector()
         return Structure(selector, [SELECTOR, self.union(name, selector)])
 
     def cipher(self):
-        selector = self.code()
+        selector = self.selector()
         return Structure(selector, [SELECTOR, self.union('key bits', selector), self.union('mode', selector)])
 
     def record(self, kind):
@@ -160,13 +224,13 @@ class Reader:
         if kind == 14:
             return Structure(None, self.items())
         magic = self.numbers(4) if kind == 13 else []
-        selector = self.code()
+        selector = self.number() if kind == 13 else self.selector()
         if kind == 11:
-            ahead, unions = self.numbers(2, 4) + self.buffers(1), ('parameters', 'unique')
+            ahead, unions = [self.code(), *self.numbers(4), *self.buffers(64)], ('parameters', 'unique')
         elif kind == 12:
-            ahead, unions = self.buffers(2), ('sensitive',)
+            ahead, unions = self.buffers(64, 64), ('sensitive',)
         else:
-            ahead, unions = self.buffers(2) + self.clock() + self.numbers(8), ('attestation',)
+            ahead, unions = self.buffers(66, 66) + self.clock() + self.numbers(8), ('attestation',)
         return Structure(selector, [*magic, SELECTOR, *ahead, *(self.union(name, selector) for name in unions)])
 
 
@@ -213,7 +277,7 @@ def judged(it, place, listed=ALGS):
                 raise Refused(2, place, it.selector)
             place += 2
         elif isinstance(part, Union):
-            if it.selector not in ARMS[part.name]:
+            if it.selector not in part.arms:
                 raise Refused(3, place, it.selector)
             if not part.chosen_by(it.selector):
                 raise Refused(7, place, it.selector)
@@ -247,21 +311,35 @@ def size_of(parts, stop=None):
 class Held:
     """The record that a case makes: read, its selector replaced, for kinds 2 and 11 with the other record's last union."""
 
-    def __init__(self, kind, code, first, second=b''):
+    def __init__(self, kind, code, first, second=b'', form=OURS):
         self.kind = kind
         self.outer, arm, turn = INSIDE.get(kind, (kind, None, None))
-        self.record = Reader(first).record(self.outer)
+        reader = Reader(first, form)
+        self.record = reader.record(self.outer)
+        self.tail, self.byte_fields = first[reader.at:], reader.byte_fields
         self.target = self.record
         if arm:
             held = self.record.unions()[0]
             if held.arm != arm:
-                raise ValueError('it holds another arm')
+                raise OtherArm
             self.target = held.parts[turn]
         if kind in (2, 11):
-            self.record.parts[-1] = Reader(second).record(kind).parts[-1]
+            self.take_last_union(Reader(second, form, 'second'))
+        self.own = self.target.selector
         if kind != 14:
             self.target.selector = code
         self.begins = size_of(self.record.parts, self.target)[0] if arm else 0
+
+    def take_last_union(self, other):
+        """From another record, which nothing may follow. Ahead of its unique part a record of kind 11 has one byte field, the policy."""
+        self.record.parts[-1] = other.record(self.kind).parts[-1]
+        if other.at < len(other.data):
+            other.refuse('TrailingData', len(other.data) - other.at)
+        self.byte_fields[1:] = other.byte_fields[1:]
+
+    def selectors_around(self):
+        """Of the structures in the record's first union but for the one whose selector is replaced."""
+        return [part.selector for part in self.record.unions()[0].parts if isinstance(part, Structure) and part is not self.target]
 
     def items(self):
         """How many items its list has; None without a list."""
@@ -298,6 +376,21 @@ class Held:
         return 'again', out.data.hex()
 
 
+def outcome(kind, data, form):
+    """What comes of reading these bytes with the two arms in that form: how many bytes the record has, or what it is refused for."""
+    reader = Reader(data, form)
+    try:
+        reader.record(kind)
+    except Unread as unread:
+        return unread.args
+    return (reader.at,)
+
+
+def has_two_forms(kind, data):
+    """Whether a record with the cipher Xor or the scheme Ecdaa has another outcome in the crate's form than in ours."""
+    return kind in (2, *range(5, 10), 11) and outcome(kind, data, CRATES) != outcome(kind, data, OURS)
+
+
 def claimed_items(kind, data):
     """The count of the list that the bytes have; None if there is no list in reach of a reader."""
     reader = Reader(data)
@@ -313,7 +406,7 @@ def claimed_items(kind, data):
 def is_legal_ahead(reader):
     """Whether what stands between the type of an attestation and its arm is legal."""
     for _ in range(2):
-        length = reader.code()
+        length = reader.number()
         if length > 66:
             return False
         reader.take(length)

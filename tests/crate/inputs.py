@@ -21,7 +21,7 @@ ALGS = [1, *range(3, 9), *range(0xA, 0xE), 0x10, *range(0x12, 0x1E), *range(0x20
 CURVES = [*range(6), 0x10, 0x11, 0x20, 0x30, 0x31, 0x32, 0x40, 0x41]
 ATTEST = [0x8014, 0x8015, 0x8016, 0x8017, 0x8018, 0x8019, 0x801A, 0x801C]
 DIGESTS = {4: 20, 0x2C: 24, 0xB: 32, 0x12: 32, 0x27: 32, 0x2D: 32, 0xC: 48, 0x28: 48, 0xD: 64, 0x29: 64, 0x2E: 64, 0x10: 0}
-# Selectors that choose a hash in the signing schemes, and all that have an arm in the asymmetric ones.
+# Selectors whose arm has a hash in the signing schemes, but for Hmac, and all that have an arm in the asymmetric ones.
 HASHED = [0x14, 0x16, 0x18, 0x1A, 0x1B, 0x1C]
 ASYM = [*HASHED, 0x17, 0x19, 0x1D, 0x15, 0x10]
 OBJECTS = [1, 8, 0x23, 0x25, 0x10]
@@ -36,12 +36,17 @@ def be(value, size):
 class Maker:
     """Records along their layouts, with random arms, codes, lengths and bodies, and a fault here and there."""
 
-    def __init__(self, rng):
+    def __init__(self, rng, is_crates=False):
         self.r = rng
         self.rate = 0.0
+        self.is_crates = is_crates
 
     def fault(self):
         return bool(self.rate) and self.r.random() < self.rate
+
+    def has_crates_form(self):
+        """Xor with a mode, Ecdaa without a count (docs/DIFFERENCES.md, 2.10): if the records are to be the crate's, or at a fault."""
+        return self.is_crates or self.fault()
 
     def code(self, listed):
         r = self.r
@@ -86,11 +91,16 @@ class Maker:
         v = int.from_bytes(s, 'big')
         if v == 0x10:
             return s
-        return s + (self.alg() if v == 0xA else self.num(2)) + self.alg()
+        if v == 0xA:
+            return s + self.alg() + (self.alg() if self.has_crates_form() else b'')
+        return s + self.num(2) + self.alg()
 
-    def hashed(self, arms, empty=(0x10,)):
+    def hashed(self, arms, empty=(0x10,), counted=()):
         s = self.sel(arms)
-        return s if int.from_bytes(s, 'big') in empty else s + self.alg()
+        v = int.from_bytes(s, 'big')
+        if v in empty:
+            return s
+        return s + self.alg() + (self.num(2) if v in counted and not self.has_crates_form() else b'')
 
     def k3(self):
         return self.hashed([7, 0x20, 0x21, 0x22, 0x10])
@@ -101,10 +111,10 @@ class Maker:
         return s if v == 0x10 else s + self.alg() + (self.alg() if v == 0xA else b'')
 
     def k5(self):
-        return self.hashed([5, *HASHED, 0x10])
+        return self.hashed([5, *HASHED, 0x10], counted=(0x1A,))
 
     def k6(self):
-        return self.hashed(ASYM, (0x10, 0x15))
+        return self.hashed(ASYM, (0x10, 0x15), counted=(0x1A,))
 
     k7 = k8 = k6
 
@@ -260,13 +270,14 @@ def smallest_of_each_layout(real):
 # Enough for any arm of the parameters, and for any digest.
 PARMS = '000b 0043 000b 0010' + '00' * 72
 DIGEST = bytes(range(64)).hex()
-# Where a code takes all 65,536 values: `*` in a record of that kind.
+# Where two bytes take all 65,536 values: `*` in a record of that kind. They are a code, but for Ecdaa's count, and what follows Xor's hash.
 SWEEPS = [
     (1, '*'), (1, f'* {DIGEST}'),
     (2, '* 0080 0043'), (2, '* 000b 0043'), (2, '0006 0080 *'), (2, '000a * 0043'), (2, '000a 000b *'), (2, '0013 0080 *'), (2, '0026 0080 *'),
     (3, '* 000b'), (3, '0007 *'),
     (4, '* 000b 0020'), (4, '0005 *'), (4, '000a * 0020'), (4, '000a 000b *'),
     (5, '* 000b'), (5, '0014 *'), (6, '* 000b'), (6, '0014 *'), (7, '* 000b'), (7, '0014 *'), (8, '* 000b'), (8, '0014 *'),
+    (5, '001a * 0001'), (7, '001a 000b *'), (9, '0023 0010 001a 000b 0001 * 0010'),
     (9, f'* {PARMS}'), (9, f'0001 * {PARMS}'), (9, f'0001 0010 * {PARMS}'), (9, '0023 0010 * 000b 0003 0010'), (9, '0023 0010 0010 * 0010'),
     (9, '0023 0010 0010 0003 * 000b'), (9, '0008 * 000b 0020'), (9, '0025 * 0080 0043'),
     (10, f'* 000b {"00" * 64}'), (10, f'0005 * {"00" * 64}'), (10, '0014 * 0000'), (10, '0018 * 0000 0000'),

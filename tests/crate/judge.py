@@ -2,8 +2,10 @@
 
 import re
 from collections import Counter
+from functools import cache
 
-from held import INSIDE, Held, claimed_items
+from held import CRATES, INSIDE, OURS, Form, Held, OtherArm, Unread, claimed_items
+from inputs import ALGS
 
 NUMBERS = {'UnexpectedEnd': 1, 'End': 1, 'Code': 2, 'VariantNotAvailable': 3, 'Length': 4, 'TooManyItems': 5, 'Value': 6, 'TrailingData': 11}
 SHORT = 1  # the one refusal that says how many bytes there were
@@ -12,6 +14,10 @@ TOLD = re.compile(r'm(?P<flags>[01]*) (?P<by>text|rebuilt) (?:again (?P<written>
                   r'(?: tail (?P<tail>\S+) field (?:none|(?P<field_by>text|rebuilt) (?P<field>\S+)) item (?P<item>\S+))?')
 LONG = range(9, 17)  # items that we read and the crate does not
 LIST = '2.1, 2.7: more items than the crate holds'
+# Kinds of a case whose record can have the cipher Xor or the scheme Ecdaa.
+TWO_FORMS = (2, *range(5, 10), 11, *range(22, 28))
+XOR_FORM = '2.10: the cipher Xor, which has a mode in the crate'
+ECDAA_FORM = '2.10: the scheme Ecdaa, which has no count in the crate'
 LISTED = {
     'type': '2.5: an attestation type outside the eight (TpmsAttest::marshal is rebuilt)',
     'null cipher': '2.6: a Null cipher that holds another arm; the crate leaves both unions out',
@@ -124,10 +130,50 @@ def judge_unread(case, words, ours, count):
     place, least, is_short = int(found[2]), begins + int(offset), NUMBERS[name] == SHORT
     hold('what our refusal had', found[4], had if is_short else None)
     hold('what our refusal had, by its place', int(had), max(0, len(case.records) - place) if is_short else 0)
-    exact = kind_read(case) in ONE_PLACE or name == 'TrailingData'
+    # A count of Ecdaa that is cut has the offset of its arm, whose second field it is; its place is settled by what it had.
+    exact = kind_read(case) in ONE_PLACE and not parted(case) or name == 'TrailingData'
     hold('the place of our refusal', place == least if exact else least <= place <= max(least, len(case.records)), True)
     count['unread ' + who] += 1
     return ''
+
+
+def foreseen(case, form):
+    """What the crate answers with its two arms in that form, but for who makes it and for the offset where a record is not read."""
+    try:
+        held = Held(case.kind, case.selector, case.first, case.second, form)
+    except Unread as unread:
+        return 'refused', *unread.args
+    except OtherArm:
+        return ('another arm',)
+    if case.selector not in ALGS or case.source:
+        return (f'no such record: {"source" if case.selector in ALGS else "selector"}',)
+    flags = ''.join('01'[union.chosen_by(held.target.selector)] for union in held.target.unions())
+    if not case.has_index:
+        return flags, held.crates(case.room), None, None
+    field = held.byte_fields[case.index].hex() or '-' if case.index < len(held.byte_fields) else None
+    return flags, held.crates(case.room), held.tail.hex() or '-', field
+
+
+def essence(line):
+    """Of a line of the crate's what is foreseen."""
+    told, words = TOLD.fullmatch(line), line.split(' ')
+    if told and told['name']:
+        return told['flags'], (told['name'], int(told['offset']), int(told['value']), told['left']), told['tail'], told['field']
+    if told:
+        return told['flags'], ('again', told['written']), told['tail'], told['field']
+    is_refused = words[0] == 'refused' and len(words) == 7
+    return ('refused', words[1], words[3], int(words[5]), int(words[6])) if is_refused else (line,)
+
+
+@cache
+def parted(case):
+    """The name of the difference, where the crate answers otherwise with the two arms in its own form than with them in ours; else ''.
+
+    The case alone decides: from its bytes, its selector and its room both answers are foreseen.
+    """
+    if case.kind not in TWO_FORMS or foreseen(case, CRATES) == foreseen(case, OURS):
+        return ''
+    return ECDAA_FORM if foreseen(case, Form(has_mode=False, has_count=False)) == foreseen(case, CRATES) else XOR_FORM
 
 
 def judge_line(case, line, ours, count):
@@ -147,19 +193,41 @@ def judge_line(case, line, ours, count):
     raise Wrong('the crate is not at one with itself')
 
 
-def judge(case, line, line16, ours, count):
+def long_list(case):
+    """The count of a list that is too long for the crate, 0 if there is none; its bytes say so."""
+    claimed = claimed_items(kind_read(case), case.first)
+    return claimed if claimed in LONG else 0
+
+
+def is_adapted(case):
+    """Whether we are held to the adapted text, in which lists have up to 16 items and the two arms our form."""
+    return bool(long_list(case) or parted(case))
+
+
+def judge(case, line, adapted, ours, count):
     """The class of the case, '' where the two sides agree. What is neither is raised.
 
-    Whether a case is of a list that is too long for the crate its bytes say. Then the crate must say so, and we are held to the crate
-    with lists of 16, in which there is no such class.
+    LINE is the crate's answer, ADAPTED the adapted text's, in which there is no such class as these: a list that is too long for the crate, and
+    the two arms that have another form there. In these the crate must answer as that class says, and we are held to the adapted text.
     """
-    claimed = claimed_items(kind_read(case), case.first)
-    if claimed not in LONG:
+    if not is_adapted(case):
         return judge_line(case, line, ours, count)
-    hold('the crate\'s refusal of a list', line, f'refused first text TooManyItems 0 {claimed} 0')
+    if long_list(case):
+        name, by = LIST, 'text'
+        hold('the crate\'s refusal of a list', line, f'refused first text TooManyItems 0 {long_list(case)} 0')
+    else:
+        name, by = parted(case), made_by(line)
+        hold('the crate\'s answer in its own form', essence(line), foreseen(case, CRATES))
+        hold('the adapted text\'s answer in our form', essence(adapted), foreseen(case, OURS))
     alone = Counter()
-    name = judge_line(case, line16, ours, alone)
+    left_out = judge_line(case, adapted, ours, alone)
     if alone['left out']:
         count['left out'] += 1
-        return name
-    return listed(count, LIST, 'text')
+        return left_out
+    return listed(count, name, by)
+
+
+def made_by(line):
+    """Who refused to read; of a record that the crate has, rebuilt if a structure in it is."""
+    told = TOLD.fullmatch(line)
+    return told['by'] if told else 'text' if ' text ' in line else 'rebuilt'

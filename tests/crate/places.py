@@ -27,9 +27,7 @@ READING_SORTS = {
     name: (name,) for name in ('kind', 'consumed', 'tail', 'number', 'place', 'value', 'had', 'field_place', 'field_size', 'field_value',
                                'field_bytes', 'again_bytes')} | {'word': ('answer', 'what')}
 WRITING_SORTS = {
-    name: (name,) for name in ('flag', 'kind', 'number', 'place', 'value', 'again_bytes', 'tail_bytes', 'field_bytes', 'item_bytes', 'word')}
-# A record that is cut is among the gate's cases alone.
-GATE_SORTS = WRITING_SORTS | {'had': ('had',)}
+    name: (name,) for name in ('flag', 'kind', 'number', 'place', 'value', 'had', 'again_bytes', 'tail_bytes', 'field_bytes', 'item_bytes', 'word')}
 WORDS = {
     'answer': (b'read', b'refused'),
     'what': (b'code', b'number', b'bytes'),

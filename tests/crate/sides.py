@@ -3,6 +3,7 @@
 Each side has `reports(program, work)`: whether what that program of the crate's answers is reported. WORK is a folder to write in.
 """
 
+import os
 import re
 import subprocess
 from pathlib import Path
@@ -31,8 +32,9 @@ def answer(program, given, got):
             raise Ended
 
 
-def is_built(text, out, program):
-    return subprocess.run([HERE / 'build.sh', text, out, '0', program], capture_output=True).returncode == 0
+def is_built(text, out, program, **words):
+    """WORDS are put into the environment of build.sh."""
+    return subprocess.run([HERE / 'build.sh', text, out, '0', program], capture_output=True, env=os.environ | words).returncode == 0
 
 
 def part_of(path):
@@ -79,28 +81,28 @@ class Reading:
             raise Ended
         return status == 1
 
-    def reports(self, program, work):
+    def reports(self, program, work, mode='listed'):
         crates = work / 'crates'
         for chunk in self.chunks:
             answer(program, chunk / 'inputs', crates)
-            if self.differs('listed', chunk, crates, chunk / 'ours'):
+            if self.differs(mode, chunk, crates, chunk / 'ours'):
                 return True
         return False
 
 
 class Asked(NamedTuple):
-    """A case of writing and its answers: a line of the published text, a line of that with lists of 16, our lines."""
+    """A case of writing and its answers: a line of the published text, a line of the adapted text, our lines."""
     case: cases.Case
     crate: str
-    crate16: str
+    adapted: str
     ours: list
 
     def is_reported(self, ours):
-        return bool(writing.tally([self.case], self.crate + '\n', self.crate16 + '\n', ours).new)
+        return bool(writing.tally([self.case], self.crate + '\n', self.adapted + '\n', ours).new)
 
 
-def all_asked(made, crate, crate16, ours):
-    sides = crate.splitlines(), crate16.splitlines(), list(writing.answers(ours, made))
+def all_asked(made, crate, adapted, ours):
+    sides = crate.splitlines(), adapted.splitlines(), list(writing.answers(ours, made))
     if any(len(side) != len(made) for side in sides):
         fail('a side of writing did not answer each case')
     return [Asked(*row) for row in zip(made, *sides)]
@@ -110,7 +112,7 @@ class Writing:
     """The cases with all answers to them, and in chunks."""
 
     def __init__(self, folder):
-        texts = [(folder / f'writing.{side}').read_text(encoding='utf-8') for side in ('crate', 'crate16', 'ours')]
+        texts = [(folder / f'writing.{side}').read_text(encoding='utf-8') for side in ('crate', 'adapted', 'ours')]
         self.every = all_asked(list(cases.unframed((folder / 'writing.cases').read_bytes())), *texts)
         self.size, self.chunks = len(self.every), [self.every[turn::WRITING_CHUNKS] for turn in range(WRITING_CHUNKS)]
 
@@ -118,9 +120,9 @@ class Writing:
         for chunk in self.chunks:
             (work / 'cases').write_bytes(b''.join(one.case.framed() for one in chunk))
             answer(program, work / 'cases', work / 'crates')
-            crate16 = ''.join(one.crate16 + '\n' for one in chunk)
+            adapted = ''.join(one.adapted + '\n' for one in chunk)
             ours = ''.join(line + '\n' for one in chunk for line in one.ours)
-            if writing.tally([one.case for one in chunk], (work / 'crates').read_text(encoding='utf-8'), crate16, ours).new:
+            if writing.tally([one.case for one in chunk], (work / 'crates').read_text(encoding='utf-8'), adapted, ours).new:
                 return True
         return False
 

@@ -69,8 +69,10 @@ pub struct Difference<'a> {
 #[derive(Default)]
 struct Class {
     inputs: u64,
-    one_accepts: u64,
-    refused: Pair,
+    both_read: u64,
+    only_we: u64,
+    only_the_crate: u64,
+    crates: Pair,
     shortest: Option<(usize, String)>,
 }
 
@@ -80,6 +82,15 @@ impl Class {
         if self.shortest.as_ref().is_none_or(|(length, _)| input.len() < *length) {
             self.shortest = Some((input.len(), format!("    kind {kind}, {input}\n    ours:  {ours}\n    crate: {crates}")));
         }
+    }
+}
+
+/// Who has a part in the crate's answer: who refuses; and of a record, whether a rebuilt structure is in it.
+fn who_of<'a>(crates: &Crates<'a>) -> &'a str {
+    match crates {
+        Crates::Refused { who, .. } => who,
+        Crates::Read { who, .. } if who.contains('r') => "rebuilt",
+        Crates::Read { .. } => "text",
     }
 }
 
@@ -108,7 +119,7 @@ impl Tables {
             match (ours, crates) {
                 (_, Crates::Read { who, .. }) => {
                     let text = who.matches('t').count() as u64;
-                    counts.read += Pair::one(if who.contains('r') { "rebuilt" } else { "text" });
+                    counts.read += Pair::one(who_of(crates));
                     counts.fields += Pair { text, rebuilt: who.len() as u64 - text };
                 }
                 (Ours::Refused { place, .. }, Crates::Refused { who, name, offset, .. }) => {
@@ -124,13 +135,18 @@ impl Tables {
     }
 
     pub fn listed(&mut self, found: &Difference, ours: &Ours, crates: &Crates) {
-        let Crates::Refused { who, .. } = crates else { panic!("the crate accepts: {}", found.input) };
+        let by = Pair::one(who_of(crates));
         for counts in self.both(found.kind, found.sort) {
-            counts.listed += Pair::one(who);
+            counts.listed += by;
         }
         let class = self.listed.entry(found.name.to_string()).or_default();
-        class.refused += Pair::one(who);
-        class.one_accepts += u64::from(matches!(ours, Ours::Read { .. }));
+        class.crates += by;
+        match (ours, crates) {
+            (Ours::Read { .. }, Crates::Read { .. }) => class.both_read += 1,
+            (Ours::Read { .. }, Crates::Refused { .. }) => class.only_we += 1,
+            (Ours::Refused { .. }, Crates::Read { .. }) => class.only_the_crate += 1,
+            (Ours::Refused { .. }, Crates::Refused { .. }) => {}
+        }
         class.show(found.kind, found.input, found.ours, found.crates);
     }
 
@@ -205,9 +221,12 @@ impl Tables {
         if self.listed.is_empty() {
             return;
         }
-        println!("\n| Listed difference | Inputs | one side accepts | The crate's refusal: text | rebuilt |\n|---|---|---|---|---|");
-        for (name, class) in &self.listed {
-            println!("| {name} | {} | {} | {} | {} |", class.inputs, class.one_accepts, class.refused.text, class.refused.rebuilt);
+        println!("\n| Listed difference | Inputs | Both read | only we | only the crate | neither | The crate's answer: text | rebuilt |");
+        println!("|---|---|---|---|---|---|---|---|");
+        for (name, c) in &self.listed {
+            let neither = c.inputs - c.both_read - c.only_we - c.only_the_crate;
+            print!("| {name} | {} | {} | {} | {} | {neither} ", c.inputs, c.both_read, c.only_we, c.only_the_crate);
+            println!("| {} | {} |", c.crates.text, c.crates.rebuilt);
         }
         for (name, class) in &self.listed {
             println!("\n{name}. The shortest:\n{}", class.shortest.as_ref().map_or("", |(_, text)| text));

@@ -3,11 +3,12 @@
 
     trial.py FOLDER GATE OURS
 
-FOLDER has what the run made: the programs in published and sixteen, `inputs`, and `writing.cases`, `writing.crate`, `writing.crate16` and
+FOLDER has what the run made: the programs in published and adapted, `inputs`, and `writing.cases`, `writing.crate`, `writing.adapted` and
 `writing.ours`. GATE is the folder with the gate's own cases and answers, OURS the command that runs a program of ours by its name.
 
-With nothing changed nothing may be reported. Then single places of our answers are changed (places.py), and of the gate's; and single places of
-the crate's text (changes.py), of which a variant is built each. Ends with 0 only if every change was reported.
+With nothing changed nothing may be reported. Then single places of our answers are changed (places.py), and of the gate's; single places of
+the crate's text (changes.py), of which a variant is built each; and each point of the adapted text is left as published (adapt.py). Ends with 0
+only if every change was reported.
 """
 
 import os
@@ -22,20 +23,24 @@ from pathlib import Path
 import cases
 import places
 import writing
+from adapt import POINTS, adapt
 from changes import changes
-from held import TAGS, claimed_items
+from held import TAGS, claimed_items, has_two_forms
 from inputs import ATTEST
-from judge import LONG, ONE_PLACE, kind_read
+from judge import LONG, ONE_PLACE, is_adapted, kind_read
 from sides import HERE, Claims, Ended, Reading, Writing, all_asked, answer, fail, is_built, parsed
 
 TEXT = HERE / 'text'
-# How often each sort of place is changed: 13 sorts of reading, 16 where differences are listed, 10 of writing, and 11 of the gate's answers.
-SIXTEEN_EACH, LISTED_EACH = 10, 4
-WRITING = {'what we write': (places.WRITING_SORTS, 9), 'the gate\'s answers': (places.GATE_SORTS, 6)}
+# How often each sort of place is changed: 13 sorts of reading, 25 where differences are listed, 11 of writing and of the gate's answers.
+ADAPTED_EACH, LISTED_EACH = 10, 4
+WRITING = {'what we write': 9, 'the gate\'s answers': 6}
 # A kind that is not the input's, and `read` for `refused`, are no answer to the input: there the comparison stops, and says so.
 STOPS, STOPPED = ('kind', 'word'), b'ours, kind '
 # Places in a refusal of an attestation type outside the eight, where we answer what is listed and the crate another thing.
 TYPE_SORTS = {f'type {name}': (name,) for name in ('number', 'place', 'value')}
+# Places in an answer to an input with Xor or Ecdaa, where both sides answer what is listed, each in its form.
+FORM_SORTS = {
+    f'form {name}': (name,) for name in ('consumed', 'tail', 'number', 'place', 'value', 'had', 'field_place', 'field_value', 'again_bytes')}
 
 
 def is_other_type(kind, data):
@@ -43,7 +48,7 @@ def is_other_type(kind, data):
     return kind == 13 and data[:4] == b'\xffTCG' and code in TAGS and code not in ATTEST
 
 
-def is_held_by_sixteen(sort, asked):
+def is_held_by_adapted(sort, asked):
     kind, _ = asked
     return sort != 'place' or kind in ONE_PLACE
 
@@ -52,15 +57,17 @@ def is_held_by_published(sort, asked):
     """To a list that is too long for the crate our answer is bounded only."""
     if sort in TYPE_SORTS:
         return is_other_type(*asked)
-    return claimed_items(*asked) not in LONG and is_held_by_sixteen(sort, asked)
+    if sort in FORM_SORTS:
+        return has_two_forms(*asked)
+    return claimed_items(*asked) not in LONG and is_held_by_adapted(sort, asked)
 
 
 def is_held_in_writing(sort, asked):
     """A record that the crate cannot have is compared with nothing. Where one is not read the place is bounded only, but for some kinds."""
-    told = (asked.crate, asked.crate16)
-    if any(line.startswith('no such record: ') for line in told):
+    line = asked.adapted if is_adapted(asked.case) else asked.crate
+    if line.startswith('no such record: '):
         return False
-    return sort != 'place' or kind_read(asked.case) in ONE_PLACE or any(line[0] == 'm' or line == 'another arm' for line in told)
+    return sort != 'place' or kind_read(asked.case) in ONE_PLACE or line[0] == 'm' or line == 'another arm'
 
 
 def chosen(r, sort, groups, parts, is_held):
@@ -134,9 +141,8 @@ def try_our_reading(reading, work, program, mode, sorts, each, is_held):
 def try_our_writing(every, what):
     """Each case is judged alone: as it is nothing may be reported, and with the change something has to be."""
     r, trial, parts = random.Random(what), Trial(what), [places.of_writing(every[turn::20]) for turn in range(20)]
-    sorts, each = WRITING[what]
-    for sort, groups in sorts.items():
-        for _ in range(each):
+    for sort, groups in places.WRITING_SORTS.items():
+        for _ in range(WRITING[what]):
             group, part, (start, end) = chosen(r, sort, groups, parts, is_held_in_writing)
             number = part.number(start)
             one, (first, last) = part.asked[number], part.bounds(number)
@@ -152,7 +158,7 @@ def gates(folder, gate):
     """The gate's cases, the crate's answers to them, and the gate's."""
     stream, ours = (gate / 'stdin').read_bytes(), (gate / 'stdout').read_text(encoding='utf-8')
     crates = [subprocess.run([folder / name / 'writing'], input=stream, capture_output=True, check=True).stdout.decode()
-              for name in ('published', 'sixteen')]
+              for name in ('published', 'adapted')]
     made = list(cases.unframed(stream))
     if writing.tally(made, *crates, ours).new:
         fail('the gate\'s answers are reported though nothing is changed')
@@ -201,6 +207,23 @@ def try_text(sides, work):
     return bad
 
 
+def try_points(reading, work):
+    """The adapted text with one of its points as published: without a class, reading has to differ."""
+    bad = 0
+    for point in POINTS:
+        folder = work / 'point'
+        folder.mkdir()
+        adapt(TEXT, folder / 'text', [change for name, change in POINTS.items() if name != point])
+        if not is_built(folder / 'text', folder / 'built', 'reading', ADAPTED='1'):
+            fail(f'the adapted text is not built without this: {point}')
+        if not reading.reports(folder / 'built/reading', folder, 'same'):
+            bad += 1
+            print(f'MISSED: not adapted: {point}', flush=True)
+        shutil.rmtree(folder)
+    print(f'{len(POINTS)} points of the adapted text left as published: {len(POINTS) - bad} reported, {bad} not', flush=True)
+    return bad
+
+
 def try_unchanged(sides, work):
     for name, side in sides.items():
         if not is_built(TEXT, work / name, name):
@@ -217,13 +240,13 @@ def main(folder, gate, ours):
     sides = {'reading': Reading(folder, work, ours), 'writing': Writing(folder), 'claims': Claims()}
     print(f'{sides["reading"].size} inputs, {sides["writing"].size} cases', flush=True)
     try_unchanged(sides, work)
-    sixteen, published = folder / 'sixteen/reading', folder / 'published/reading'
-    bad = try_our_reading(sides['reading'], work, sixteen, 'same', places.READING_SORTS, SIXTEEN_EACH, is_held_by_sixteen)
-    listed = places.READING_SORTS | TYPE_SORTS
+    adapted, published = folder / 'adapted/reading', folder / 'published/reading'
+    bad = try_our_reading(sides['reading'], work, adapted, 'same', places.READING_SORTS, ADAPTED_EACH, is_held_by_adapted)
+    listed = places.READING_SORTS | TYPE_SORTS | FORM_SORTS
     bad += try_our_reading(sides['reading'], work, published, 'listed', listed, LISTED_EACH, is_held_by_published)
     for every, what in zip((sides['writing'].every, gates(folder, Path(gate))), WRITING):
         bad += try_our_writing(every, what)
-    bad += try_text(sides, work)
+    bad += try_text(sides, work) + try_points(sides['reading'], work)
     shutil.rmtree(work)
     return 1 if bad else 0
 

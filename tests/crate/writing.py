@@ -3,7 +3,7 @@
 
     writing.py FOLDER GATE OURS...
 
-FOLDER has the program of writing.rs, in published over the crate's text and in sixteen over the text with lists of 16, and is for the cases and
+FOLDER has the program of writing.rs, in published over the crate's text and in adapted over the adapted text (adapt.py), and is for the cases and
 answers. GATE is the folder with the gate's own cases and answers (crates/calls), OURS the command that runs our program `calls`. Ends with 0 only if every answer was alike or differs as docs/DIFFERENCES.md says.
 """
 
@@ -49,11 +49,11 @@ class Tally:
     def __init__(self):
         self.kinds, self.classes, self.shortest, self.new = {}, Counter(), {}, []
 
-    def take(self, case, line, line16, ours):
+    def take(self, case, line, adapted, ours):
         count = self.kinds.setdefault(case.kind, Counter())
         count['cases'] += 1
         try:
-            name = judge(case, line, line16, ours, count)
+            name = judge(case, line, adapted, ours, count)
         except (Wrong, ValueError, KeyError) as wrong:
             count['new'] += 1
             self.new.append(f'{wrong}\n' + shown(case, line, ours))
@@ -68,14 +68,14 @@ def shown(case, line, ours):
     return f'    {case}\n    ours:  {" | ".join(ours)}\n    crate: {line}'
 
 
-def tally(made, crate, crate16, ours):
-    """All cases judged. CRATE, CRATE16 and OURS are whole answers: the crate's, the crate's with lists of 16, and ours."""
-    found, lines, lines16 = Tally(), crate.splitlines(), crate16.splitlines()
+def tally(made, crate, adapted, ours):
+    """All cases judged. CRATE, ADAPTED and OURS are whole answers: the crate's, the adapted text's, and ours."""
+    found, lines, others = Tally(), crate.splitlines(), adapted.splitlines()
     try:
-        if not made or not len(lines) == len(lines16) == len(made):
+        if not made or not len(lines) == len(others) == len(made):
             raise Wrong('the crate did not answer each case, or there is none')
-        for case, line, line16, answer in zip(made, lines, lines16, answers(ours, made)):
-            found.take(case, line, line16, answer)
+        for case, line, other, answer in zip(made, lines, others, answers(ours, made)):
+            found.take(case, line, other, answer)
     except Wrong as wrong:
         found.new.append(str(wrong))
     return found
@@ -121,8 +121,8 @@ def run(command, stream):
 
 
 def crates(folder, stream):
-    """The crate's answers, and those with lists of 16."""
-    return [run([folder / name / 'writing'], stream) for name in ('published', 'sixteen')]
+    """The crate's answers, and those of the adapted text."""
+    return [run([folder / name / 'writing'], stream) for name in ('published', 'adapted')]
 
 
 def compare_made(folder, ours):
@@ -130,7 +130,7 @@ def compare_made(folder, ours):
     cases.require_complete(made)
     stream = b''.join(case.framed() for case in made)
     sides = [*crates(folder, stream), run(ours, stream)]
-    for name, text in zip(('writing.crate', 'writing.crate16', 'writing.ours'), sides):
+    for name, text in zip(('writing.crate', 'writing.adapted', 'writing.ours'), sides):
         (folder / name).write_text(text, encoding='utf-8')
     (folder / 'writing.cases').write_bytes(stream)
     print(f'{len(made)} cases\n')

@@ -11,6 +11,7 @@ use format::arms::ha_arm;
 use format::arms::sym_key_bits_arm;
 use format::arms::sym_mode_arm;
 use steps::walk::Walk;
+use wire::choice::Choice;
 use wire::read::SpanRead;
 use wire::read::plain;
 use wire::span::Span;
@@ -157,6 +158,18 @@ impl TpmuSymKeyBits {
 }
 
 impl TpmuSymMode {
+    // Whether the payload is the arm that was chosen.
+    fn holds(self, chosen: Choice) -> bool
+        ensures { λ r. ⌜ r ≡ isArm chosen (held (tpmuSymModeParts self)) ⌝ }
+    {
+        match self {
+            Self::Aes(_) => chosen.is(registry::AES),
+            Self::Sm4(_) => chosen.is(registry::SM4),
+            Self::Camellia(_) => chosen.is(registry::CAMELLIA),
+            Self::Null => chosen.is(registry::NULL),
+        }
+    }
+
     pub fn unmarshal_tagged(tag: TpmAlgId, s: &[u8], at: usize) -> TpmuSymModeRead
         ensures { λ r. ⌜ tpmuSymModeAnswer r ≡ read (tpmuSymMode (tag .0)) (now (s .entry)) at ⌝ }
     {
@@ -182,19 +195,14 @@ impl TpmuSymMode {
     pub fn matches_tag(self, tag: TpmAlgId) -> bool
         ensures { λ r. ⌜ r ≡ isArm (tpmuSymModeArm (tag .0)) (held (tpmuSymModeParts self)) ⌝ }
     {
-        let chosen = sym_mode_arm(tag);
-        match self {
-            Self::Aes(_) => chosen.is(registry::AES),
-            Self::Sm4(_) => chosen.is(registry::SM4),
-            Self::Camellia(_) => chosen.is(registry::CAMELLIA),
-            Self::Null => chosen.is(registry::NULL),
-        }
+        self.holds(sym_mode_arm(tag))
     }
 
     pub fn walk_tagged(self, tag: TpmAlgId, w: Walk, src: &[u8], out: &mut [u8]) -> Walk
         ensures { λ r. ⌜ Walks 2 (tpmuSymMode (tag .0)) (tpmuSymModeParts self) [] (now (src .entry)) (here w (now (out .entry))) (here r (now (out .exit))) ⌝ }
     {
-        let v = w.due(tag.0, sym_mode_arm(tag), self.matches_tag(tag));
+        let chosen = sym_mode_arm(tag);
+        let v = w.due(tag.0, chosen, self.holds(chosen));
         match self {
             Self::Aes(x) => v.algorithm(x, out),
             Self::Sm4(x) => v.algorithm(x, out),

@@ -74,27 +74,34 @@ pub enum TpmuKdfSchemeRead {
 }
 
 impl TpmuAsymScheme {
+    // Whether the payload is the arm that was chosen.
+    fn holds(self, chosen: Choice) -> bool
+        ensures { λ r. ⌜ r ≡ isArm chosen (held (tpmuAsymSchemeParts self)) ⌝ }
+    {
+        match self {
+            Self::Hash(_) => chosen.is(HASH), // a hash alone, which Ecdaa does not choose
+            Self::Ecdaa(_) => chosen.is(registry::ECDAA),
+            Self::Null => chosen.is(registry::NULL),
+        }
+    }
+
     pub fn unmarshal_tagged(tag: TpmAlgId, s: &[u8], at: usize) -> TpmuAsymSchemeRead
         ensures { λ r. ⌜ tpmuAsymSchemeAnswer r ≡ read (tpmuAsymScheme (tag .0)) (now (s .entry)) at ⌝ }
     {
         match asym_scheme_arm(tag) {
-            Choice::The(t) => {
-                if t == registry::NULL {
-                    return TpmuAsymSchemeRead::Found(Self::Null, at);
-                }
-                if t == registry::ECDAA {
-                    return match TpmsSchemeEcdaa::unmarshal(s, at) {
-                        TpmsSchemeEcdaaRead::Found(x, e) => {
-                            TpmuAsymSchemeRead::Found(Self::Ecdaa(x), e)
-                        }
-                        TpmsSchemeEcdaaRead::No(f) => TpmuAsymSchemeRead::No(f),
-                    };
-                }
-                match TpmsSchemeHash::unmarshal(s, at) {
+            Choice::The(t) => match t {
+                registry::NULL => TpmuAsymSchemeRead::Found(Self::Null, at),
+                registry::ECDAA => match TpmsSchemeEcdaa::unmarshal(s, at) {
+                    TpmsSchemeEcdaaRead::Found(x, e) => {
+                        TpmuAsymSchemeRead::Found(Self::Ecdaa(x), e)
+                    }
+                    TpmsSchemeEcdaaRead::No(f) => TpmuAsymSchemeRead::No(f),
+                },
+                _ => match TpmsSchemeHash::unmarshal(s, at) {
                     TpmsSchemeHashRead::Found(x, e) => TpmuAsymSchemeRead::Found(Self::Hash(x), e),
                     TpmsSchemeHashRead::No(f) => TpmuAsymSchemeRead::No(f),
-                }
-            }
+                },
+            },
             Choice::Nothing => TpmuAsymSchemeRead::No(Refusal::no_arm(at, wide(tag.0))),
         }
     }
@@ -102,18 +109,14 @@ impl TpmuAsymScheme {
     pub fn matches_tag(self, tag: TpmAlgId) -> bool
         ensures { λ r. ⌜ r ≡ isArm (tpmuAsymSchemeArm (tag .0)) (held (tpmuAsymSchemeParts self)) ⌝ }
     {
-        let chosen = asym_scheme_arm(tag);
-        match self {
-            Self::Hash(_) => chosen.is(HASH),
-            Self::Ecdaa(_) => chosen.is(registry::ECDAA),
-            Self::Null => chosen.is(registry::NULL),
-        }
+        self.holds(asym_scheme_arm(tag))
     }
 
     pub fn walk_tagged(self, tag: TpmAlgId, w: Walk, src: &[u8], out: &mut [u8]) -> Walk
         ensures { λ r. ⌜ Walks 3 (tpmuAsymScheme (tag .0)) (tpmuAsymSchemeParts self) [] (now (src .entry)) (here w (now (out .entry))) (here r (now (out .exit))) ⌝ }
     {
-        let v = w.due(tag.0, asym_scheme_arm(tag), self.matches_tag(tag));
+        let chosen = asym_scheme_arm(tag);
+        let v = w.due(tag.0, chosen, self.holds(chosen));
         match self {
             Self::Hash(x) => x.walk(v, src, out),
             Self::Ecdaa(x) => x.walk(v, src, out),
@@ -165,40 +168,10 @@ impl TpmuKeyedhashScheme {
 }
 
 impl TpmuSigScheme {
-    pub fn unmarshal_tagged(tag: TpmAlgId, s: &[u8], at: usize) -> TpmuSigSchemeRead
-        ensures { λ r. ⌜ tpmuSigSchemeAnswer r ≡ read (tpmuSigScheme (tag .0)) (now (s .entry)) at ⌝ }
+    // Whether the payload is the arm that was chosen.
+    fn holds(self, chosen: Choice) -> bool
+        ensures { λ r. ⌜ r ≡ isArm chosen (held (tpmuSigSchemeParts self)) ⌝ }
     {
-        match sig_scheme_arm(tag) {
-            Choice::The(t) => {
-                if t == registry::NULL {
-                    return TpmuSigSchemeRead::Found(Self::Null, at);
-                }
-                if t == registry::ECDAA {
-                    return match TpmsSchemeEcdaa::unmarshal(s, at) {
-                        TpmsSchemeEcdaaRead::Found(x, e) => {
-                            TpmuSigSchemeRead::Found(Self::Ecdaa(x), e)
-                        }
-                        TpmsSchemeEcdaaRead::No(f) => TpmuSigSchemeRead::No(f),
-                    };
-                }
-                match TpmsSchemeHash::unmarshal(s, at) {
-                    TpmsSchemeHashRead::Found(x, e) => {
-                        if t == HASH {
-                            return TpmuSigSchemeRead::Found(Self::Hash(x), e);
-                        }
-                        TpmuSigSchemeRead::Found(Self::Hmac(x), e)
-                    }
-                    TpmsSchemeHashRead::No(f) => TpmuSigSchemeRead::No(f),
-                }
-            }
-            Choice::Nothing => TpmuSigSchemeRead::No(Refusal::no_arm(at, wide(tag.0))),
-        }
-    }
-
-    pub fn matches_tag(self, tag: TpmAlgId) -> bool
-        ensures { λ r. ⌜ r ≡ isArm (tpmuSigSchemeArm (tag .0)) (held (tpmuSigSchemeParts self)) ⌝ }
-    {
-        let chosen = sig_scheme_arm(tag);
         match self {
             Self::Hash(_) => chosen.is(HASH),
             Self::Hmac(_) => chosen.is(registry::HMAC),
@@ -207,10 +180,41 @@ impl TpmuSigScheme {
         }
     }
 
+    pub fn unmarshal_tagged(tag: TpmAlgId, s: &[u8], at: usize) -> TpmuSigSchemeRead
+        ensures { λ r. ⌜ tpmuSigSchemeAnswer r ≡ read (tpmuSigScheme (tag .0)) (now (s .entry)) at ⌝ }
+    {
+        match sig_scheme_arm(tag) {
+            Choice::The(t) => match t {
+                registry::NULL => TpmuSigSchemeRead::Found(Self::Null, at),
+                registry::ECDAA => match TpmsSchemeEcdaa::unmarshal(s, at) {
+                    TpmsSchemeEcdaaRead::Found(x, e) => TpmuSigSchemeRead::Found(Self::Ecdaa(x), e),
+                    TpmsSchemeEcdaaRead::No(f) => TpmuSigSchemeRead::No(f),
+                },
+                _ => match TpmsSchemeHash::unmarshal(s, at) {
+                    TpmsSchemeHashRead::Found(x, e) => {
+                        if t == HASH {
+                            return TpmuSigSchemeRead::Found(Self::Hash(x), e);
+                        }
+                        TpmuSigSchemeRead::Found(Self::Hmac(x), e)
+                    }
+                    TpmsSchemeHashRead::No(f) => TpmuSigSchemeRead::No(f),
+                },
+            },
+            Choice::Nothing => TpmuSigSchemeRead::No(Refusal::no_arm(at, wide(tag.0))),
+        }
+    }
+
+    pub fn matches_tag(self, tag: TpmAlgId) -> bool
+        ensures { λ r. ⌜ r ≡ isArm (tpmuSigSchemeArm (tag .0)) (held (tpmuSigSchemeParts self)) ⌝ }
+    {
+        self.holds(sig_scheme_arm(tag))
+    }
+
     pub fn walk_tagged(self, tag: TpmAlgId, w: Walk, src: &[u8], out: &mut [u8]) -> Walk
         ensures { λ r. ⌜ Walks 3 (tpmuSigScheme (tag .0)) (tpmuSigSchemeParts self) [] (now (src .entry)) (here w (now (out .entry))) (here r (now (out .exit))) ⌝ }
     {
-        let v = w.due(tag.0, sig_scheme_arm(tag), self.matches_tag(tag));
+        let chosen = sig_scheme_arm(tag);
+        let v = w.due(tag.0, chosen, self.holds(chosen));
         match self {
             Self::Hash(x) => x.walk(v, src, out),
             Self::Hmac(x) => x.walk(v, src, out),

@@ -25,6 +25,17 @@ tpm_struct! {
 /// Forced to be one type with the hash scheme: tpmu.rs:698 binds both by one name.
 pub type TpmsSchemeHmac = TpmsSchemeHash;
 
+// For the adapted text alone: the crate's names no such structure (docs/DIFFERENCES.md, 2.10).
+#[cfg(adapted)]
+tpm_struct! {
+    #[derive(Debug, PartialEq, Eq, Clone, Copy, Default)]
+    wire: TpmsSchemeEcdaaWire,
+    pub struct TpmsSchemeEcdaa {
+        pub hash_alg: TpmAlgId,
+        pub count: TpmUint16,
+    }
+}
+
 tpm_struct! {
     #[derive(Debug, PartialEq, Eq, Clone, Copy, Default)]
     wire: TpmsSchemeXorWire,
@@ -242,8 +253,8 @@ impl TpmMarshal for TpmsAttest {
     }
 }
 
-/// With `--cfg types8` a type without an arm is refused where it stands, as docs/FORMAT.md has it. Which types have one, the union says.
-#[cfg(types8)]
+/// Beside the adapted text a type without an arm is refused where it stands, as docs/FORMAT.md has it. Which types have one, the union says.
+#[cfg(adapted)]
 fn judge_type(attest_type: TpmSt) -> TpmResult<()> {
     match TpmuAttest::unmarshal_tagged(attest_type, &[]) {
         Err(TpmError::VariantNotAvailable { value, .. }) => Err(TpmError::Rebuilt { fault: Fault::Code, offset: 0, value, available: 0 }),
@@ -252,7 +263,7 @@ fn judge_type(attest_type: TpmSt) -> TpmResult<()> {
 }
 
 /// Any structure tag is taken. What the crate does is not known; its union refuses all but the eight (tpmu.rs:640).
-#[cfg(not(types8))]
+#[cfg(not(adapted))]
 fn judge_type(_: TpmSt) -> TpmResult<()> {
     Ok(())
 }

@@ -16,7 +16,7 @@ unmarshal-tagged-spec = tie.close (tie.spec
     (search needs) (search needs)
     (λ c. finds (search (in-arm tpmuSymMode, by-whole tpmAlgIdAnswer, rests)))
     (λ c. refuses (search (in-arm tpmuSymMode, by-whole tpmAlgIdAnswer, rests)))
-    (λ c. finds (search (in-arm tpmuSymMode, by-whole tpmAlgIdAnswer, rests)))
+    (λ c. finds (in-arm tpmuSymMode {x = sm4} _ _ (c .before .before .before .before .match .keys2) (search (by-whole tpmAlgIdAnswer, rests))))
     (λ c. refuses (search (in-arm tpmuSymMode, by-whole tpmAlgIdAnswer, rests)))
     (λ c. finds (search (in-arm tpmuSymMode, by-whole tpmAlgIdAnswer, rests)))
     (λ c. refuses (search (in-arm tpmuSymMode, by-whole tpmAlgIdAnswer, rests)))

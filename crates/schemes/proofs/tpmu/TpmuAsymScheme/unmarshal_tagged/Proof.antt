@@ -9,10 +9,10 @@ use Rattle.schemes.proofs.tpmu.TpmuAsymScheme.unmarshal_tagged.Tie as t
 pub unmarshal-tagged-spec : {M : Type 1} → Rattle.schemes.proofs.tpmu.TpmuAsymScheme.unmarshal_tagged.Statement.statement M
 unfolding tpmuAsymScheme
 unmarshal-tagged-spec = tie.close (tie.spec
-    (search needs) (search needs) (λ c. finds (search (chosen tpmuAsymSchemeArm tpmuAsymSchemeBody null, rests))) (search needs) (search needs)
-    (search needs) (λ c. finds (search (chosen tpmuAsymSchemeArm tpmuAsymSchemeBody ecdaa, by-whole tpmsSchemeEcdaaAnswer, rests)))
-    (λ c. refuses (search (chosen tpmuAsymSchemeArm tpmuAsymSchemeBody ecdaa, by-whole tpmsSchemeEcdaaAnswer, rests))) (search needs)
-    (search needs) (search needs) (search needs) (search needs) (search needs)
+    (search needs) (search needs) (search needs) (search needs) (search needs) (search needs) (search needs) (search needs) (search needs)
+    (search needs) (search needs) (λ c. finds (search (chosen tpmuAsymSchemeArm tpmuAsymSchemeBody null, rests)))
+    (λ c. finds (search (chosen tpmuAsymSchemeArm tpmuAsymSchemeBody ecdaa, by-whole tpmsSchemeEcdaaAnswer, rests)))
+    (λ c. refuses (search (chosen tpmuAsymSchemeArm tpmuAsymSchemeBody ecdaa, by-whole tpmsSchemeEcdaaAnswer, rests)))
     (λ c. finds (search (chosen tpmuAsymSchemeArm tpmuAsymSchemeBody hash, asym-hash, by-whole tpmsSchemeHashAnswer, rests)))
     (λ c. refuses (search (chosen tpmuAsymSchemeArm tpmuAsymSchemeBody hash, asym-hash, by-whole tpmsSchemeHashAnswer, rests)))
     (λ c. search (no-arm tpmuAsymSchemeArm tpmuAsymSchemeBody, via)))

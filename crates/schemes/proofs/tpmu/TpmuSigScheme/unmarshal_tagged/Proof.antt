@@ -9,10 +9,10 @@ use Rattle.schemes.proofs.tpmu.TpmuSigScheme.unmarshal_tagged.Tie as ti
 pub unmarshal-tagged-spec : {M : Type 1} → Rattle.schemes.proofs.tpmu.TpmuSigScheme.unmarshal_tagged.Statement.statement M
 unfolding tpmuSigScheme
 unmarshal-tagged-spec = tie.close (tie.spec
-    (search needs) (search needs) (λ c. finds (search (chosen tpmuSigSchemeArm tpmuSigSchemeBody null, rests))) (search needs) (search needs)
-    (search needs) (λ c. finds (search (chosen tpmuSigSchemeArm tpmuSigSchemeBody ecdaa, by-whole tpmsSchemeEcdaaAnswer, rests)))
-    (λ c. refuses (search (chosen tpmuSigSchemeArm tpmuSigSchemeBody ecdaa, by-whole tpmsSchemeEcdaaAnswer, rests))) (search needs)
-    (search needs) (λ c. finds (search (chosen tpmuSigSchemeArm tpmuSigSchemeBody hash, by-whole tpmsSchemeHashAnswer, rests))) (search needs)
-    (search needs) (search needs) (search needs)
+    (search needs) (search needs) (search needs) (search needs) (search needs) (search needs) (search needs)
+    (λ c. finds (search (chosen tpmuSigSchemeArm tpmuSigSchemeBody hash, by-whole tpmsSchemeHashAnswer, rests))) (search needs) (search needs)
+    (search needs) (search needs) (λ c. finds (search (chosen tpmuSigSchemeArm tpmuSigSchemeBody null, rests)))
+    (λ c. finds (search (chosen tpmuSigSchemeArm tpmuSigSchemeBody ecdaa, by-whole tpmsSchemeEcdaaAnswer, rests)))
+    (λ c. refuses (search (chosen tpmuSigSchemeArm tpmuSigSchemeBody ecdaa, by-whole tpmsSchemeEcdaaAnswer, rests)))
     (λ c. finds (search (chosen tpmuSigSchemeArm tpmuSigSchemeBody hmac, sig-hmac, by-whole tpmsSchemeHashAnswer, rests)))
     (λ c. search (sig-refused, by-whole tpmsSchemeHashAnswer, rests)) (λ c. search (no-arm tpmuSigSchemeArm tpmuSigSchemeBody, via)))
