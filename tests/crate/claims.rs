@@ -356,8 +356,8 @@ fn two_forms(t: &mut Tally) {
     let signing = TpmtSigScheme { scheme: TpmAlgId::Ecdaa, details: TpmuSigScheme::Hash(hash) };
     let TpmtEccScheme { scheme: tag, details } = scheme;
     let (rsa, decrypt) = (TpmtRsaScheme { scheme: tag, details }, TpmtRsaDecrypt { scheme: tag, details });
-    let four = [written(&signing, 9), written(&rsa, 9), written(&scheme, 9), written(&decrypt, 9)];
-    t.rebuilt("2.10 kinds 5 to 8, Ecdaa with Hash: writes 001A 000B", four, std::array::from_fn(|_| (Ok(()), "001a000b".to_string())));
+    let all = [written(&signing, 9), written(&rsa, 9), written(&scheme, 9), written(&decrypt, 9)];
+    t.rebuilt("2.10 kinds 5 to 8, Ecdaa with Hash: writes 001A 000B", all, std::array::from_fn(|_| (Ok(()), "001a000b".to_string())));
 }
 
 fn main() {

@@ -16,7 +16,7 @@ use std::hash::{DefaultHasher, Hash, Hasher};
 use tables::{Difference, Tables};
 use words::{number_of, unhex};
 
-/// Kinds whose arm has one field at most: there the crate's offsets are our places (docs/DIFFERENCES.md, 2.4).
+/// Kinds whose arm has one field at most in the crate: there the crate's offsets are our places (docs/DIFFERENCES.md, 2.4).
 const ONE_PLACE: [u32; 6] = [1, 3, 5, 6, 7, 8];
 
 const SHORT: u64 = 1;

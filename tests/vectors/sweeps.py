@@ -18,7 +18,7 @@ REFUSED = 'code tried, refused'
 
 
 class Place(NamedTuple):
-    """Where a code is tried. Its parts are those of the tables, or fields: word, size and value."""
+    """Where a number is tried. Its parts are those of the tables, or fields: word, size and value."""
     kind: int
     ahead: tuple  # the parts ahead of the code
     between: tuple = ()  # those between the code and the arms that it chooses

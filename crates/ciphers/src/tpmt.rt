@@ -141,7 +141,7 @@ impl TpmtHa {
 }
 
 impl TpmtSymDef {
-    // Kind 2, TPMT_SYM_DEF, read. Behind a Null cipher there are neither key bits nor a mode, and behind XOR there is no mode.
+    // Kind 2, TPMT_SYM_DEF, read. Behind a Null cipher there are neither key bits nor a mode, and behind Xor there is no mode.
     pub fn unmarshal(s: &[u8], at: usize) -> TpmtSymDefRead
         ensures { λ r. ⌜ tpmtSymDefAnswer r ≡ read tpmtSymDef (now (s .entry)) at ⌝ }
     {

@@ -1,5 +1,6 @@
 // The unions of kinds 1 and 2, with the calls that a union has: `unmarshal_tagged` reads the arm that the selector chooses, `matches_tag` says whether
-// the payload is that arm, and `walk_tagged` asks it where the arm is due and then goes over what is held.
+// the payload is that arm, and `walk_tagged` judges that where the arm is due and then goes over what is held. Where several selectors choose one arm,
+// a private `holds` says it of the arm that was looked up.
 use codes::DigestLen;
 use codes::TpmAlgId;
 use codes::TpmAlgIdRead;
@@ -158,7 +159,6 @@ impl TpmuSymKeyBits {
 }
 
 impl TpmuSymMode {
-    // Whether the payload is the arm that was chosen.
     fn holds(self, chosen: Choice) -> bool
         ensures { λ r. ⌜ r ≡ isArm chosen (held (tpmuSymModeParts self)) ⌝ }
     {

@@ -14,7 +14,7 @@ pub key-bits-are-a-number : tpmuSymKeyBits aes ≡ arm aes aes (one 2 free)
 unfolding tpmuSymKeyBits tpmuSymKeyBitsArm
 key-bits-are-a-number = refl
 
--- a mode read after XOR because the ciphers have one: it has none, and its arm is the empty one
+-- a mode read after Xor because the other ciphers have one: it has none, and its arm is the empty one
 pub xor-has-no-mode : tpmuSymMode xor ≡ arm xor null stop
 unfolding tpmuSymMode tpmuSymModeArm
 xor-has-no-mode = refl

@@ -103,7 +103,7 @@ module _ (e : Edition) where
   unfoldable pub tpmuKdfSchemeIn : ℕ → Layout
   tpmuKdfSchemeIn v = unionOf tpmuKdfSchemeTableIn v
 
-  -- TPMU_SYM_KEY_BITS: key bits, which are no count of bytes; of XOR a hash code
+  -- TPMU_SYM_KEY_BITS: key bits, which are no count of bytes; of Xor a hash code
   abbrev pub tpmuSymKeyBitsTableIn : List Row
   tpmuSymKeyBitsTableIn =
       own aes (one 2 free)
@@ -116,7 +116,7 @@ module _ (e : Edition) where
   unfoldable pub tpmuSymKeyBitsIn : ℕ → Layout
   tpmuSymKeyBitsIn v = unionOf tpmuSymKeyBitsTableIn v
 
-  -- TPMU_SYM_MODE: a mode; XOR has none, so that its arm is the empty one
+  -- TPMU_SYM_MODE: a mode; Xor has none, so that its arm is the empty one
   abbrev pub tpmuSymModeTableIn : List Row
   tpmuSymModeTableIn =
       own aes (one 2 algIn)
@@ -135,7 +135,7 @@ module _ (e : Edition) where
   unfoldable pub tpmtHaIn : Layout
   tpmtHaIn = number 2 algIn (λ hashAlg. tpmuHaIn hashAlg)
 
-  -- kind 2, TPMT_SYM_DEF: a Null cipher has neither key bits nor mode, and XOR no mode
+  -- kind 2, TPMT_SYM_DEF: a Null cipher has neither key bits nor mode, and Xor no mode
   unfoldable pub tpmtSymDefIn : Layout
   tpmtSymDefIn = number 2 algIn (λ algorithm. tpmuSymKeyBitsIn algorithm then tpmuSymModeIn algorithm)
 

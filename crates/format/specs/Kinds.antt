@@ -156,7 +156,7 @@ tpmuKdfSchemeBody t = bodyOf tpmuKdfSchemeTable t
 unfoldable pub tpmuKdfScheme : ℕ → Layout
 tpmuKdfScheme v = union (tpmuKdfSchemeArm v) tpmuKdfSchemeBody v
 
--- TPMU_SYM_KEY_BITS: key bits, which are no count of bytes; of XOR a hash code
+-- TPMU_SYM_KEY_BITS: key bits, which are no count of bytes; of Xor a hash code
 abbrev pub tpmuSymKeyBitsTable : List Row
 tpmuSymKeyBitsTable =
     own aes (one 2 free)
@@ -175,7 +175,7 @@ tpmuSymKeyBitsBody t = bodyOf tpmuSymKeyBitsTable t
 unfoldable pub tpmuSymKeyBits : ℕ → Layout
 tpmuSymKeyBits v = union (tpmuSymKeyBitsArm v) tpmuSymKeyBitsBody v
 
--- TPMU_SYM_MODE: a mode; XOR has none, so that its arm is the empty one
+-- TPMU_SYM_MODE: a mode; Xor has none, so that its arm is the empty one
 abbrev pub tpmuSymModeTable : List Row
 tpmuSymModeTable =
     own aes (one 2 alg)
@@ -200,7 +200,7 @@ tpmuSymMode v = union (tpmuSymModeArm v) tpmuSymModeBody v
 unfoldable pub tpmtHa : Layout
 tpmtHa = number 2 alg (λ hashAlg. tpmuHa hashAlg)
 
--- kind 2, TPMT_SYM_DEF: a Null cipher has neither key bits nor mode, and XOR no mode
+-- kind 2, TPMT_SYM_DEF: a Null cipher has neither key bits nor mode, and Xor no mode
 unfoldable pub tpmtSymDef : Layout
 tpmtSymDef = number 2 alg (λ algorithm. tpmuSymKeyBits algorithm then tpmuSymMode algorithm)
 

@@ -74,7 +74,6 @@ pub enum TpmuKdfSchemeRead {
 }
 
 impl TpmuAsymScheme {
-    // Whether the payload is the arm that was chosen.
     fn holds(self, chosen: Choice) -> bool
         ensures { λ r. ⌜ r ≡ isArm chosen (held (tpmuAsymSchemeParts self)) ⌝ }
     {
@@ -168,7 +167,6 @@ impl TpmuKeyedhashScheme {
 }
 
 impl TpmuSigScheme {
-    // Whether the payload is the arm that was chosen.
     fn holds(self, chosen: Choice) -> bool
         ensures { λ r. ⌜ r ≡ isArm chosen (held (tpmuSigSchemeParts self)) ⌝ }
     {

@@ -1,4 +1,4 @@
--- The selector's code chooses the arm that the table has for it, or none; XOR and Null choose the empty one. Assumes nothing.
+-- The selector's code chooses the arm that the table has for it, or none; Xor and Null choose the empty one. Assumes nothing.
 use mathlib.Core.List.{[], _∷_}
 use mathlib.Core.Logic.{inl, inr}
 use mathlib.Core.Path.{refl}

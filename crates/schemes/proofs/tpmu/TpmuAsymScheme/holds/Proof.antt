@@ -1,4 +1,4 @@
--- The payload's arm is held against the one that was chosen. Assumes nothing.
+-- The payload's arm is held against the one that was chosen. The first names its facts, so that a wrong arm there shows. Assumes nothing.
 use mathlib.Core.Path.{refl}
 use Rattle.wire.proofs.Search.{needs, is-arm}
 use Rattle.schemes.specs.Parts.{tpmuAsymSchemeParts}
