@@ -115,7 +115,7 @@ static bool nv_digest(const struct field *field, uint64_t value)
 }
 
 const struct rule rules[] = {
-    {"hash-not-judged", "it takes any hash code in a scheme or a signature", hash, false, NULL},
+    {"hash-not-judged", "it takes any hash code in a scheme, a signature or the cipher Xor", hash, false, NULL},
     {"kdf-not-judged", "it takes any KDF code in the keyed hash scheme's Xor", kdf, false, NULL},
     {"mode-not-judged", "it takes any mode of a cipher", mode, false, NULL},
     {"curve-not-judged", "it takes any curve", curve, false, NULL},
