@@ -47,21 +47,21 @@ wanted kinds public srk public srk
 try '--kind, two files' 0 kinds '' 'cd "$records" && "$list" --kind 11 public public'
 try '--kind, the last one counts' 0 aes '' '"$list" --kind 11 --kind 2 "$records/aes"'
 number=0
-for kind in HA SYM_DEF KDF_SCHEME KEYEDHASH_SCHEME SIG_SCHEME RSA_SCHEME ECC_SCHEME RSA_DECRYPT PUBLIC_PARMS SIGNATURE PUBLIC SENSITIVE TPMS_ATTEST TPML_PCR_SELECTION; do
+for kind in HA SYM_DEF KDF_SCHEME KEYEDHASH_SCHEME SIG_SCHEME RSA_SCHEME ECC_SCHEME RSA_DECRYPT PUBLIC_PARMS SIGNATURE PUBLIC SENSITIVE TPMS_ATTEST TPML_PCR_SELECTION TPMS_CAPABILITY_DATA; do
     number=$((number + 1))
     case $kind in TPM*) ;; *) kind=TPMT_$kind ;; esac
     field=2
-    case $number in 13 | 14) field=4 ;; esac
+    case $number in 13 | 14 | 15) field=4 ;; esac
     echo "kind $number refused 1 at 0 value $field had 1" >"$want/short"
     try "--kind $number" 1 short '' '"$list" --kind "$number" "$records/byte"'
     try "--kind $kind is $number" 1 short '' '"$list" --kind "$kind" "$records/byte"'
 done
-for kind in 0 15 255 011 -1 1.0 ' 11' TPMT_public TPM2B_PUBLIC '*' '' 'two
+for kind in 0 16 255 011 -1 1.0 ' 11' TPMT_public TPM2B_PUBLIC '*' '' 'two
 lines'; do
     try "--kind '$(printf %s "$kind" | tr '\n' '?')'" 2 nothing 'cabinet-list: --kind *: no such kind (cabinet-list --help *)' '"$list" --kind "$kind" "$records/public"'
     try "--kind='$(printf %s "$kind" | tr '\n' '?')'" 2 nothing 'cabinet-list: --kind *: no such kind (cabinet-list --help *)' '"$list" "--kind=$kind" "$records/public"'
 done
-try '--kind, a wrong one behind a right one' 2 nothing 'cabinet-list: --kind 15: no such kind*' '"$list" --kind 11 --kind 15 "$records/public"'
+try '--kind, a wrong one behind a right one' 2 nothing 'cabinet-list: --kind 16: no such kind*' '"$list" --kind 11 --kind 16 "$records/public"'
 try '--kind without a kind' 2 nothing 'cabinet-list: --kind: no kind is given*' '"$list" "$records/public" --kind'
 
 try '--sized' 0 srk '' '"$list" --kind 11 --sized <"$records/sized"'

@@ -6,7 +6,7 @@
 #define CODE_OF(role) {CODE, role, NULL, NULL}
 #define BUFFER_OF(buffer) {BUFFER, buffer, NULL, NULL}
 #define PLAIN_OF(size) {PLAIN, size, NULL, NULL}
-#define ITEMS_OF(item) {ITEMS, 0, item, NULL}
+#define ITEMS_OF(item, most) {ITEMS, most, item, NULL}
 #define PART_OF(part) {PART, 0, part, NULL}
 #define UNION_OF(arms) {UNION, 0, NULL, arms}
 #define ROW(...) (const struct field[]) {__VA_ARGS__, STOP}
@@ -25,6 +25,11 @@ enum attestation {
     CREATION = 0x801A, NV_DIGEST = 0x801C
 };
 
+enum capability {
+    ALGS = 0, HANDLES = 1, COMMANDS = 2, PP_COMMANDS = 3, AUDIT_COMMANDS = 4, PCRS = 5, TPM_PROPERTIES = 6,
+    ECC_CURVES = 8, AUTH_POLICIES = 9, ACT = 10
+};
+
 struct range {
     unsigned from, to;
 };
@@ -33,6 +38,7 @@ static const struct range algorithms[] = {
     {0x01, 0x01}, {0x03, 0x08}, {0x0A, 0x0D}, {0x10, 0x10}, {0x12, 0x1D}, {0x20, 0x23}, {0x25, 0x2E}, {0x3F, 0x44}, {1, 0}};
 static const struct range curves[] = {{0x00, 0x05}, {0x10, 0x11}, {0x20, 0x20}, {0x30, 0x32}, {0x40, 0x41}, {1, 0}};
 static const struct range attestations[] = {{0x8014, 0x801A}, {0x801C, 0x801C}, {1, 0}};
+static const struct range capabilities[] = {{0, 10}, {1, 0}};
 
 const struct field nothing[] = {STOP};
 const struct field key_bits_and_mode[] = {NUMBER_OF(2), CODE_OF(MODE), STOP};
@@ -97,7 +103,7 @@ const struct arm signature_arms[] = {
     {HMAC, ROW(PART_OF(tagged_digest))}, {NULL_CODE, nothing}, LAST};
 
 static const struct field pcr_selection[] = {CODE_OF(BANK), BUFFER_OF(PCR_BITS), STOP};
-static const struct field pcr_selections[] = {ITEMS_OF(pcr_selection), STOP};
+static const struct field pcr_selections[] = {ITEMS_OF(pcr_selection, 16), STOP};
 static const struct field clock_info[] = {NUMBER_OF(8), NUMBER_OF(4), NUMBER_OF(4), {YES_NO, 0, NULL, NULL}, STOP};
 
 const struct arm attested_arms[] = {
@@ -110,6 +116,23 @@ const struct arm attested_arms[] = {
     {NV, ROW(BUFFER_OF(NAME), NUMBER_OF(2), BUFFER_OF(NV_CONTENTS))},
     {NV_DIGEST, ROW(BUFFER_OF(NAME), BUFFER_OF(DIGEST_BUFFER))}, LAST};
 
+const struct field algorithm_item[] = {CODE_OF(ALGORITHM_ITEM), NUMBER_OF(4), STOP};
+const struct field handle_item[] = {NUMBER_OF(4), STOP};
+const struct field command_attributes_item[] = {NUMBER_OF(4), STOP};
+const struct field command_item[] = {NUMBER_OF(4), STOP};
+const struct field property_item[] = {NUMBER_OF(4), NUMBER_OF(4), STOP};
+const struct field curve_item[] = {CODE_OF(CURVE), STOP};
+const struct field policy_item[] = {NUMBER_OF(4), PART_OF(tagged_digest), STOP};
+const struct field act_item[] = {NUMBER_OF(4), NUMBER_OF(4), NUMBER_OF(4), STOP};
+
+const struct arm capability_arms[] = {
+    {ALGS, ROW(ITEMS_OF(algorithm_item, 128))}, {HANDLES, ROW(ITEMS_OF(handle_item, 128))},
+    {COMMANDS, ROW(ITEMS_OF(command_attributes_item, 128))},
+    {PP_COMMANDS, ROW(ITEMS_OF(command_item, 128))}, {AUDIT_COMMANDS, ROW(ITEMS_OF(command_item, 128))},
+    {PCRS, ROW(PART_OF(pcr_selections))}, {TPM_PROPERTIES, ROW(ITEMS_OF(property_item, 128))},
+    {ECC_CURVES, ROW(ITEMS_OF(curve_item, 128))}, {AUTH_POLICIES, ROW(ITEMS_OF(policy_item, 16))},
+    {ACT, ROW(ITEMS_OF(act_item, 16))}, LAST};
+
 static const struct field parameters[] = {CODE_OF(SELECTOR), UNION_OF(parameter_arms), STOP};
 static const struct field signature[] = {CODE_OF(SELECTOR), UNION_OF(signature_arms), STOP};
 static const struct field public_area[] = {
@@ -120,12 +143,14 @@ static const struct field sensitive_area[] = {
 static const struct field attestation[] = {
     {MAGIC, 0, NULL, NULL}, CODE_OF(ATTESTATION), BUFFER_OF(NAME), BUFFER_OF(DATA), PART_OF(clock_info), NUMBER_OF(8),
     UNION_OF(attested_arms), STOP};
+static const struct field capability_data[] = {CODE_OF(CAPABILITY), UNION_OF(capability_arms), STOP};
 
 const struct field *layout_of(int kind)
 {
     static const struct field *const kinds[KINDS + 1] = {
         NULL, tagged_digest, cipher, kdf_scheme, keyedhash_scheme, signing_scheme, asymmetric_scheme, asymmetric_scheme,
-        asymmetric_scheme, parameters, signature, public_area, sensitive_area, attestation, pcr_selections};
+        asymmetric_scheme, parameters, signature, public_area, sensitive_area, attestation, pcr_selections,
+        capability_data};
     return kinds[kind];
 }
 
@@ -138,15 +163,34 @@ const struct field *arm_for(const struct arm *arms, unsigned selector)
 
 bool chooses_an_arm(enum role role)
 {
-    return role == SELECTOR || role == ATTESTATION;
+    return role == SELECTOR || role == ATTESTATION || role == CAPABILITY;
+}
+
+static const struct range *list_of(enum role role)
+{
+    switch (role) {
+    case CURVE:
+        return curves;
+    case ATTESTATION:
+        return attestations;
+    case CAPABILITY:
+        return capabilities;
+    default:
+        return algorithms;
+    }
 }
 
 bool listed(enum role role, unsigned code)
 {
-    const struct range *range = role == CURVE ? curves : role == ATTESTATION ? attestations : algorithms;
+    const struct range *range = list_of(role);
     while (range->from <= range->to && !(range->from <= code && code <= range->to))
         range++;
     return range->from <= range->to;
+}
+
+size_t code_width(enum role role)
+{
+    return role == CAPABILITY ? 4 : 2;
 }
 
 size_t limit_of(enum buffer buffer)

@@ -1,4 +1,4 @@
-// The format as tables: its codes, buffers, unions and the fourteen kinds (docs/FORMAT.md, sections 3 to 7).
+// The format as tables: its codes, buffers, lists, unions and the kinds (docs/FORMAT.md, sections 3 to 7).
 #ifndef LAYOUTS_H
 #define LAYOUTS_H
 
@@ -6,14 +6,16 @@
 #include <stddef.h>
 #include <stdint.h>
 
-enum { KINDS = 14, GREATEST_COUNT = 16, LARGEST_INPUT = 4096 };
+enum { KINDS = 15, LARGEST_INPUT = 4096 };
 
 static const uint32_t MAGIC_NUMBER = 0xFF544347;
 
 enum what { END, NUMBER, CODE, YES_NO, MAGIC, BUFFER, PLAIN, ITEMS, PART, UNION };
 
-// What a code is for. The first two choose arms.
-enum role { SELECTOR, ATTESTATION, HASH, KDF, MODE, CURVE, NAME_ALGORITHM, AUDITED, BANK };
+// What a code is for. The first three choose arms.
+enum role {
+    SELECTOR, ATTESTATION, CAPABILITY, HASH, KDF, MODE, CURVE, NAME_ALGORITHM, AUDITED, BANK, ALGORITHM_ITEM
+};
 
 // A PCR selection's size and bits are a buffer whose length has one byte.
 enum buffer {
@@ -25,7 +27,7 @@ struct arm;
 
 struct field {
     enum what what;
-    int of; // a number's width, a code's role, which buffer, a plain digest's size
+    int of; // a number's width, a code's role, which buffer, a plain digest's size, the most ITEMS
     const struct field *part; // of a PART, and each item's of ITEMS
     const struct arm *arms; // of a UNION; chosen by the selector of the same row of fields
 };
@@ -36,15 +38,20 @@ struct arm {
 };
 
 extern const struct arm digest_arms[], cipher_arms[], kdf_arms[], keyedhash_arms[], signing_arms[], asymmetric_arms[],
-    parameter_arms[], unique_arms[], sensitive_arms[], signature_arms[], attested_arms[];
+    parameter_arms[], unique_arms[], sensitive_arms[], signature_arms[], attested_arms[], capability_arms[];
 
 // Rows of fields that arms are made of.
 extern const struct field nothing[], key_bits_and_mode[];
+
+// Items. A list is known by its item, so lists with other limits have other rows, even with the same fields.
+extern const struct field algorithm_item[], handle_item[], command_attributes_item[], command_item[], property_item[],
+    curve_item[], policy_item[], act_item[];
 
 const struct field *layout_of(int kind);
 const struct field *arm_for(const struct arm *arms, unsigned selector);
 bool chooses_an_arm(enum role role);
 bool listed(enum role role, unsigned code);
+size_t code_width(enum role role);
 size_t limit_of(enum buffer buffer);
 size_t length_width(enum buffer buffer);
 

@@ -2,11 +2,15 @@
 
 #include "rules.h"
 
+// libtss2-mu takes no list of more than 508.
+enum { COUNTS_TRIED = 512 };
+
 struct maker {
     struct input *input;
     struct random *random;
     struct style style;
     size_t asked; // how many fields could be faulty so far
+    bool may_part; // by choosing a selector or a count at which the two sides part
 };
 
 static void make_row(struct maker *maker, const struct field *row);
@@ -34,7 +38,7 @@ static void put_bytes(struct maker *maker, size_t size)
     input->size += there;
 }
 
-// A listed algorithm or curve; no list goes past 44.
+// A listed code; but for attestation types, no list goes past 44.
 static unsigned listed_code(struct maker *maker, enum role role)
 {
     unsigned code;
@@ -57,6 +61,26 @@ static unsigned any_code(struct maker *maker)
     }
 }
 
+// Listed, also without an arm; near the list; a listed one with a bit more; or anywhere.
+static unsigned any_capability(struct maker *maker)
+{
+    switch (random_below(maker->random, 4)) {
+    case 0:
+        return (unsigned)random_number(maker->random);
+    case 1:
+        return listed_code(maker, CAPABILITY) ^ 1u << random_below(maker->random, 32);
+    default:
+        return (unsigned)random_below(maker->random, 0x14);
+    }
+}
+
+static unsigned faulty_code(struct maker *maker, enum role role)
+{
+    if (role == CAPABILITY)
+        return any_capability(maker);
+    return chooses_an_arm(role) && one_in(maker->random, 2) ? listed_code(maker, SELECTOR) : any_code(maker);
+}
+
 // The union that a selector of this row chooses for.
 static const struct field *union_behind(const struct field *field)
 {
@@ -65,28 +89,49 @@ static const struct field *union_behind(const struct field *field)
     return field;
 }
 
-static unsigned selector_with_arm(struct maker *maker, const struct arm *arms)
+static bool parts_at(const struct field *field, uint64_t value)
 {
-    size_t count = 0;
-    while (arms[count].fields != NULL)
-        count++;
-    return arms[random_below(maker->random, count)].selector;
+    return rule_at(field, value, NO_RULE) != NO_RULE;
 }
 
-// A selector, of those up to 44, at which the two sides part; if this union has none, one with an arm.
-static unsigned selector_with_rule(struct maker *maker, const struct field *chosen)
+// Among the selectors and counts of a record by the rules the two sides part at one at most: fifteen policies of which one
+// has a digest that libtss2-mu lacks would be refused there for either, and show neither.
+static bool is_kept(const struct maker *maker, const struct field *field, uint64_t value)
 {
-    unsigned start = (unsigned)random_below(maker->random, 0x45);
-    for (unsigned i = 0; i < 0x45; i++)
-        if (rule_at(chosen, (start + i) % 0x45, NO_RULE) != NO_RULE)
-            return (start + i) % 0x45;
-    return selector_with_arm(maker, chosen->arms);
+    return !maker->style.by_rules || !parts_at(field, value);
+}
+
+// A value below the bound at which the two sides part; false if there is none, or none is wanted here.
+static bool parting_value(struct maker *maker, const struct field *field, size_t bound, size_t *value)
+{
+    if (!maker->may_part || one_in(maker->random, 2))
+        return false;
+    size_t start = random_below(maker->random, bound);
+    for (size_t i = 0; i < bound; i++) {
+        *value = (start + i) % bound;
+        if (parts_at(field, *value)) {
+            maker->may_part = false;
+            return true;
+        }
+    }
+    return false;
+}
+
+static unsigned selector_with_arm(struct maker *maker, const struct field *chosen)
+{
+    size_t count = 0, selector;
+    while (chosen->arms[count].fields != NULL)
+        count++;
+    do
+        selector = chosen->arms[random_below(maker->random, count)].selector;
+    while (!is_kept(maker, chosen, selector));
+    return (unsigned)selector;
 }
 
 static unsigned good_selector(struct maker *maker, const struct field *chosen)
 {
-    bool by_a_rule = maker->style.by_rules && one_in(maker->random, 4);
-    return by_a_rule ? selector_with_rule(maker, chosen) : selector_with_arm(maker, chosen->arms);
+    size_t selector;
+    return parting_value(maker, chosen, 0x45, &selector) ? (unsigned)selector : selector_with_arm(maker, chosen);
 }
 
 static unsigned make_code(struct maker *maker, const struct field *field)
@@ -94,12 +139,12 @@ static unsigned make_code(struct maker *maker, const struct field *field)
     enum role role = (enum role)field->of;
     unsigned code;
     if (is_fault_due(maker))
-        code = chooses_an_arm(role) && one_in(maker->random, 2) ? listed_code(maker, SELECTOR) : any_code(maker);
+        code = faulty_code(maker, role);
     else if (chooses_an_arm(role))
         code = good_selector(maker, union_behind(field));
     else
         code = listed_code(maker, role);
-    put_number(maker, code, 2);
+    put_number(maker, code, code_width(role));
     return code;
 }
 
@@ -155,13 +200,52 @@ static void make_buffer(struct maker *maker, const struct field *field)
     put_bytes(maker, length);
 }
 
+static size_t count_within(struct maker *maker, size_t most)
+{
+    switch (random_below(maker->random, 8)) {
+    case 0:
+        return random_between(maker->random, most - 2, most);
+    case 1:
+        return random_below(maker->random, most + 1);
+    default:
+        return random_below(maker->random, 4);
+    }
+}
+
+static size_t good_count(struct maker *maker, const struct field *field)
+{
+    size_t count;
+    if (parting_value(maker, field, COUNTS_TRIED, &count))
+        return count;
+    do
+        count = count_within(maker, (size_t)field->of);
+    while (!is_kept(maker, field, count));
+    return count;
+}
+
+// About the limit, past it, about a limit of another list or of libtss2-mu, or anything.
+static size_t faulty_count(struct maker *maker, size_t most)
+{
+    static const size_t counts[] = {14, 15, 16, 17, 84, 85, 127, 128, 129, 254, 255, 256, 257, 508, 509};
+    switch (random_below(maker->random, 4)) {
+    case 0:
+        return random_between(maker->random, most - 1, most + 2);
+    case 1:
+        return random_between(maker->random, most, 2 * most + 1);
+    case 2:
+        return counts[random_below(maker->random, sizeof counts / sizeof *counts)];
+    default:
+        return random_below(maker->random, (size_t)1 << 32);
+    }
+}
+
+// Of a count that neither side takes a few items more than the limit are made.
 static void make_items(struct maker *maker, const struct field *field)
 {
-    size_t count = random_below(maker->random, one_in(maker->random, 4) ? GREATEST_COUNT + 1 : 4);
-    if (is_fault_due(maker))
-        count = one_in(maker->random, 2) ? random_between(maker->random, 15, 18) : random_below(maker->random, 1u << 31);
+    size_t most = (size_t)field->of, count = is_fault_due(maker) ? faulty_count(maker, most) : good_count(maker, field);
+    size_t made = count <= COUNTS_TRIED ? count : most + 2;
     put_number(maker, count, 4);
-    for (size_t i = 0; i < count && i < GREATEST_COUNT + 2; i++)
+    for (size_t i = 0; i < made; i++)
         make_row(maker, field->part);
 }
 
@@ -220,7 +304,7 @@ static void make_row(struct maker *maker, const struct field *row)
 
 size_t make_record(struct input *input, struct random *random, struct style style)
 {
-    struct maker maker = {input, random, style, 0};
+    struct maker maker = {input, random, style, 0, style.by_rules && one_in(random, 2)};
     input->size = 0;
     make_row(&maker, layout_of(input->kind));
     return maker.asked;

@@ -35,6 +35,7 @@ READER(TPMT_PUBLIC)
 READER(TPMT_SENSITIVE)
 READER(TPMS_ATTEST)
 READER(TPML_PCR_SELECTION)
+READER(TPMS_CAPABILITY_DATA)
 
 struct reference {
     const char *name;
@@ -59,6 +60,7 @@ static const struct reference references[KINDS + 1] = {
     {"TPMT_SENSITIVE", read_TPMT_SENSITIVE, NULL},
     {"TPMS_ATTEST", read_TPMS_ATTEST, NULL},
     {"TPML_PCR_SELECTION", read_TPML_PCR_SELECTION, NULL},
+    {"TPMS_CAPABILITY_DATA", read_TPMS_CAPABILITY_DATA, NULL},
 };
 
 void reference_start(void)

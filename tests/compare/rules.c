@@ -1,4 +1,4 @@
-// Each test names one field, or one union, and the values there for which the two part; no test looks at an answer.
+// Each test names one field, list or union, and the values there for which the two part; no test looks at an answer.
 #include "rules.h"
 
 static bool is_unlisted(const struct field *field, enum role role, uint64_t value)
@@ -14,6 +14,11 @@ static bool is_length(const struct field *field, enum buffer buffer, uint64_t va
 static bool is_selector(const struct field *field, const struct arm *arms, uint64_t value, unsigned selector)
 {
     return field->what == UNION && field->arms == arms && value == selector;
+}
+
+static bool is_count(const struct field *field, const struct field *item, uint64_t value, uint64_t from, uint64_t to)
+{
+    return field->what == ITEMS && field->part == item && from <= value && value <= to;
 }
 
 static bool hash(const struct field *field, uint64_t value)
@@ -51,6 +56,11 @@ static bool bank(const struct field *field, uint64_t value)
     return is_unlisted(field, BANK, value);
 }
 
+static bool algorithm_in_a_list(const struct field *field, uint64_t value)
+{
+    return is_unlisted(field, ALGORITHM_ITEM, value);
+}
+
 static bool magic(const struct field *field, uint64_t value)
 {
     return field->what == MAGIC && value != MAGIC_NUMBER;
@@ -78,6 +88,18 @@ static bool null_attestation(const struct field *field, uint64_t value)
     return is_type || is_selector(field, attested_arms, value, 0x10);
 }
 
+// Two places as well.
+static bool null_capability(const struct field *field, uint64_t value)
+{
+    bool is_code = field->what == CODE && field->of == CAPABILITY && value == 0x10;
+    return is_code || is_selector(field, capability_arms, value, 0x10);
+}
+
+static bool pcr_capability(const struct field *field, uint64_t value)
+{
+    return is_selector(field, capability_arms, value, 7);
+}
+
 static bool long_ecc(const struct field *field, uint64_t value)
 {
     return is_length(field, ECC_PARAMETER, value, 67, 128);
@@ -93,9 +115,49 @@ static bool long_name(const struct field *field, uint64_t value)
     return is_length(field, NAME, value, 67, 68);
 }
 
+static bool many_handles(const struct field *field, uint64_t value)
+{
+    return is_count(field, handle_item, value, 129, 254);
+}
+
+static bool many_command_attributes(const struct field *field, uint64_t value)
+{
+    return is_count(field, command_attributes_item, value, 129, 256);
+}
+
+static bool many_commands(const struct field *field, uint64_t value)
+{
+    return is_count(field, command_item, value, 129, 256);
+}
+
+static bool many_curves(const struct field *field, uint64_t value)
+{
+    return is_count(field, curve_item, value, 129, 508);
+}
+
+static bool many_acts(const struct field *field, uint64_t value)
+{
+    return is_count(field, act_item, value, 17, 84);
+}
+
 static bool long_data(const struct field *field, uint64_t value)
 {
     return is_length(field, DATA, value, 65, 66);
+}
+
+static bool many_algorithms(const struct field *field, uint64_t value)
+{
+    return is_count(field, algorithm_item, value, 128, 128);
+}
+
+static bool many_properties(const struct field *field, uint64_t value)
+{
+    return is_count(field, property_item, value, 128, 128);
+}
+
+static bool many_policies(const struct field *field, uint64_t value)
+{
+    return is_count(field, policy_item, value, 15, 16);
 }
 
 static bool new_digest(const struct field *field, uint64_t value)
@@ -114,6 +176,11 @@ static bool nv_digest(const struct field *field, uint64_t value)
     return is_selector(field, attested_arms, value, 0x801C);
 }
 
+// Not the format's: a list of tags, each with a PCR size and bits.
+static const struct field pcr_property_item[] = {
+    {NUMBER, 4, NULL, NULL}, {BUFFER, PCR_BITS, NULL, NULL}, {END, 0, NULL, NULL}};
+static const struct field pcr_properties[] = {{ITEMS, 84, pcr_property_item, NULL}, {END, 0, NULL, NULL}};
+
 const struct rule rules[] = {
     {"hash-not-judged", "it takes any hash code in a scheme, a signature or the cipher Xor", hash, false, NULL},
     {"kdf-not-judged", "it takes any KDF code in the keyed hash scheme's Xor", kdf, false, NULL},
@@ -122,17 +189,30 @@ const struct rule rules[] = {
     {"name-algorithm-not-judged", "it takes any name algorithm", name_algorithm, false, NULL},
     {"audited-not-judged", "it takes any algorithm in a command audit", audited, false, NULL},
     {"bank-not-judged", "it takes any PCR bank", bank, false, NULL},
+    {"algorithm-item-not-judged", "it takes any algorithm in a list of algorithms", algorithm_in_a_list, false, NULL},
     {"magic-not-judged", "it takes any magic", magic, false, NULL},
     {"yes-no-not-judged", "it takes any yes/no byte", yes_no, false, NULL},
     {"symcipher-cipher", "cipher selector 0025 has key bits and a mode there, and no arm in the format", symcipher_cipher,
      false, key_bits_and_mode},
     {"null-sensitive", "Null is an empty arm of its sensitive union", null_sensitive, false, nothing},
     {"null-attestation", "attestation type 0010 has an empty arm there", null_attestation, false, nothing},
+    {"null-capability", "capability code 00000010 has an empty arm there", null_capability, false, nothing},
+    {"pcr-properties", "capability code 00000007 has a list of PCR properties there, and no arm in the format",
+     pcr_capability, false, pcr_properties},
     {"ecc-to-128", "it takes ECC parameters to 128 bytes, the format to 66", long_ecc, false, NULL},
     {"unique-to-64", "the unique part of SymCipher is a digest there, to 64 bytes; in the format a key, to 32",
      long_unique, false, NULL},
     {"name-to-68", "it takes names to 68 bytes, the format to 66", long_name, false, NULL},
+    {"handles-to-254", "it takes lists of handles to 254, the format to 128", many_handles, false, NULL},
+    {"command-attributes-to-256", "it takes lists of command attributes to 256, the format to 128",
+     many_command_attributes, false, NULL},
+    {"commands-to-256", "it takes lists of commands to 256, the format to 128", many_commands, false, NULL},
+    {"curves-to-508", "it takes lists of curves to 508, the format to 128", many_curves, false, NULL},
+    {"acts-to-84", "it takes lists of ACT data to 84, the format to 16", many_acts, false, NULL},
     {"data-to-64", "it takes attestation data to 64 bytes, the format to 66", long_data, true, NULL},
+    {"algorithms-to-127", "it takes lists of algorithms to 127, the format to 128", many_algorithms, true, NULL},
+    {"properties-to-127", "it takes lists of TPM properties to 127, the format to 128", many_properties, true, NULL},
+    {"policies-to-14", "it takes lists of policies to 14, the format to 16", many_policies, true, NULL},
     {"no-sha3-shake", "it has no plain digest of SHA3 or SHAKE256", new_digest, true, NULL},
     {"no-kdf2", "its KDF scheme has no KDF2", kdf2, true, NULL},
     {"no-nv-digest", "it has no attestation type 801C", nv_digest, true, NULL},

@@ -7,7 +7,8 @@
 struct rule {
     const char *name;
     const char *reason;
-    // Whether libtss2-mu goes another way at this field, given its code, number, length or, at a union, the selector.
+    // Whether libtss2-mu goes another way at this field, given its code, number, length, count or, at a union, its
+    // selector.
     bool (*parts_at)(const struct field *field, uint64_t value);
     bool refuses; // it refuses where the format reads; otherwise it reads on where the format refuses
     const struct field *arm; // at a union where it reads on: the fields that it reads there

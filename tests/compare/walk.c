@@ -78,14 +78,15 @@ static bool walk_number(struct walk *walk, const struct field *field)
 static bool walk_code(struct walk *walk, const struct field *field, unsigned *selector)
 {
     enum role role = (enum role)field->of;
-    if (!is_there(walk, 2))
+    size_t width = code_width(role);
+    if (!is_there(walk, width))
         return false;
-    unsigned code = (unsigned)number_here(walk, 2);
+    unsigned code = (unsigned)number_here(walk, width);
     if (!is_taken(walk, field, code, listed(role, code)))
         return refuse(walk, UNKNOWN_CODE, code);
     if (chooses_an_arm(role))
         *selector = code;
-    return pass_number(walk, 2, "code");
+    return pass_number(walk, width, "code");
 }
 
 // A yes/no byte or the magic.
@@ -115,7 +116,7 @@ static bool walk_items(struct walk *walk, const struct field *field)
     if (!is_there(walk, 4))
         return false;
     uint64_t count = number_here(walk, 4);
-    if (count > GREATEST_COUNT)
+    if (!is_taken(walk, field, count, count <= (uint64_t)field->of))
         return refuse(walk, TOO_MANY_ITEMS, count);
     pass_number(walk, 4, "number");
     for (uint64_t i = 0; i < count; i++)

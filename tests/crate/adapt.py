@@ -15,10 +15,16 @@ WITHOUT, WITH = SIGNING.format(''), SIGNING.format('TpmAlgId::Ecdaa|')
 ECDAA = 'Ecdaa(crate::data::TpmsSchemeEcdaa)'
 MODES = 'Camellia(TpmAlgId): TpmAlgId::Camellia;\n    '
 
+# The lists that take another number of items here, with their items: how many in the crate, and how many here.
+LISTS = {
+    'TpmlAlgProperty, TpmsAlgProperty': (64, 128), 'TpmlCca, TpmaCc': (256, 128), 'TpmlCc, TpmCc': (256, 128),
+    'TpmlPcrSelection, TpmsPcrSelection': (8, 16), 'TpmlTaggedTpmProperty, TpmsTaggedProperty': (64, 128),
+    'TpmlEccCurve, TpmEccCurve': (64, 128), 'TpmlTaggedPolicy, TpmsTaggedPolicy': (8, 16), 'TpmlActData, TpmsActData': (8, 16),
+}
+
 # The points, each a change of one table: the file, what stands there, and what is put there.
 POINTS = {
-    'a list has up to 16 PCR selections': (
-        'data/mod.rs', 'tpml!(TpmlPcrSelection, TpmsPcrSelection, 8);', 'tpml!(TpmlPcrSelection, TpmsPcrSelection, 16);'),
+    **{f'{name}: {ours} items': ('data/mod.rs', f'tpml!({name}, {crates});', f'tpml!({name}, {ours});') for name, (crates, ours) in LISTS.items()},
     'the cipher Xor has no mode': (
         'data/tpmu.rs', f'{MODES}Xor(TpmAlgId): TpmAlgId::Xor;\n    @null Null: TpmAlgId::Null;', f'{MODES}@null Null: TpmAlgId::Xor|TpmAlgId::Null;'),
     'the asymmetric scheme Ecdaa has a count': (

@@ -6,8 +6,8 @@ The frame is that of our program `calls` (tests/vectors/README.md has its bytes)
 from itertools import product
 from typing import NamedTuple
 
-from held import CRATE_CAPACITY, CRATES, ECDAA, INSIDE, OURS, TAGS, UNION_OF_KIND, XOR, Held, OtherArm, Unread, arms, has_two_forms
-from inputs import ALGS, Maker, be
+from held import CRATES, ECDAA, INSIDE, OURS, UNION_OF_KIND, XOR, Held, OtherArm, Unread, arms, capacities, codes_of, has_two_forms
+from inputs import ALGS, CAPACITIES, KINDS, Maker, be
 
 ENOUGH = 4096
 NO_INDEX = 0xFFFF
@@ -16,10 +16,12 @@ HEAD = 14
 # What the cases have to come to: the unions whose selector a kind replaces, and how many byte fields a record of a kind can have.
 UNIONS = {
     **{kind: (name,) for kind, name in UNION_OF_KIND.items()},
-    2: ('key bits', 'mode'), 11: ('parameters', 'unique'), 12: ('sensitive',), 13: ('attestation',), 21: ('digest',), 22: ('keyed hash',),
-    23: ('key bits', 'mode'), 24: ('key bits', 'mode'), 25: ('asymmetric',), 26: ('asymmetric',), 27: ('kdf',),
+    2: ('key bits', 'mode'), 11: ('parameters', 'unique'), 12: ('sensitive',), 13: ('attestation',), 15: ('capabilities',), 21: ('digest',),
+    22: ('keyed hash',), 23: ('key bits', 'mode'), 24: ('key bits', 'mode'), 25: ('asymmetric',), 26: ('asymmetric',), 27: ('kdf',),
 }
-BYTE_FIELDS = {1: 1, 10: 2, 11: 3, 12: 3, 13: 4, 14: 1}
+BYTE_FIELDS = {1: 1, 10: 2, 11: 3, 12: 3, 13: 4, 14: 1, 15: 1}
+# How many items a list of the kind can have, in the crate and here.
+MOST_ITEMS = {13: 8, 14: 8, 15: 128}
 
 
 class Case(NamedTuple):
@@ -42,6 +44,11 @@ class Case(NamedTuple):
         return self.records[self.second_at:]
 
     @property
+    def code(self):
+        """What is put in place of the selector. Of kind 15 it has 4 bytes, the upper two where other cases have the place of their second record."""
+        return self.second_at << 16 | self.selector if self.kind == 15 else self.selector
+
+    @property
     def has_index(self):
         return self.index != NO_INDEX
 
@@ -53,7 +60,7 @@ class Case(NamedTuple):
     def __str__(self):
         asked = f' index {self.index}' if self.has_index else ''
         places = f' at {self.first_at}' + (f' and {self.second_at}' if self.kind in (2, 11) else '')
-        return f'kind {self.kind} selector {self.selector:04x} room {self.room}{asked}{places} {self.records.hex()}'
+        return f'kind {self.kind} selector {self.code:04x} room {self.room}{asked}{places} {self.records.hex()}'
 
 
 def unframed(stream):
@@ -68,22 +75,28 @@ def unframed(stream):
 
 
 def own_selector(kind, data):
-    at = 4 if kind == 13 else 0
-    return int.from_bytes(data[at:at + 2], 'big') if kind != 14 else 0
+    at, size = {13: (4, 2), 14: (0, 0), 15: (0, 4)}.get(kind, (0, 2))
+    return int.from_bytes(data[at:at + size], 'big')
 
 
 def items_of(kind, data):
-    return Held(kind, own_selector(kind, data), data, data).items() if kind in (13, 14) else None
+    """How many items its list has, 0 without one."""
+    return Held(kind, own_selector(kind, data), data, data).items() or 0 if kind in MOST_ITEMS else 0
+
+
+def fits_both(kind, data):
+    """Whether its list has no more items than either side takes, if it has one."""
+    return items_of(kind, data) <= min(capacities(kind, data))
 
 
 def records(maker, kind, each):
-    """Legal records of the kind: `each` for each of its selectors, with no more items than the crate has room for, and in kinds 9 and 11, where
+    """Legal records of the kind: `each` for each of its selectors, with no more items than both sides have room for, and in kinds 9 and 11, where
     Xor and Ecdaa stand further in, without these."""
     found = {}
     for _ in range(4000):
         data = maker.record(kind)
         held = found.setdefault(own_selector(kind, data), [])
-        if len(held) < each and (items_of(kind, data) or 0) <= CRATE_CAPACITY and not (kind in (9, 11) and has_two_forms(kind, data)):
+        if len(held) < each and fits_both(kind, data) and not (kind in (9, 11) and has_two_forms(kind, data)):
             held.append(data)
     return found
 
@@ -103,12 +116,12 @@ def placed(r, kind, selector, room, first, second=b'', index=NO_INDEX):
 
 def relabelled(r, maker):
     """Every arm under every code; of kinds 2 and 11 with the last union of each other arm. (Xor's mode is Null's arm, and the crate's another.)"""
-    for kind in range(1, 14):
+    for kind in (*range(1, 14), 15):
         found = records(maker, kind, 4 if kind in (9, 11) else 3)
         seconds = [held[0] for held in found.values() if not has_two_forms(kind, held[0])] if kind in (2, 11) else [b'']
         for first in (data for held in found.values() for data in held):
             for second in seconds:
-                for code in TAGS if kind == 13 else ALGS:
+                for code in codes_of(kind):
                     for room in sorted(rooms(r, len(first))):
                         yield placed(r, kind, code, room, first, second)
 
@@ -134,13 +147,13 @@ def for_inside(maker, kind, count):
 
 def indexed(r, maker):
     """Every byte field and every item, up to one past the last; under the record's own selector and under others."""
-    for kind in range(1, 15):
-        found = records(maker, kind, 40 if kind == 14 else 12)
+    for kind in KINDS:
+        found = records(maker, kind, {14: 40, 15: 6}.get(kind, 12))
         every = [data for held in found.values() for data in held]
         for first in every:
             second = r.choice(every) if kind in (2, 11) else b''
-            for index in range(max(4, items_of(kind, first) or 0) + 1):
-                for code in (own_selector(kind, first), r.choice(TAGS if kind == 13 else ALGS)):
+            for index in range(max(4, items_of(kind, first)) + 1):
+                for code in (own_selector(kind, first), r.choice(codes_of(kind))):
                     yield placed(r, kind, code, r.choice((ENOUGH, len(first), 0)), first, second, index)
     for kind in INSIDE:
         for data in for_inside(maker, kind, 20):
@@ -148,15 +161,21 @@ def indexed(r, maker):
 
 
 def lists(r, maker):
-    """Kind 14 written; and lists that are longer than the crate's."""
+    """Kind 14 written; lists that are longer than the crate's; and of each capability those about the capacities of both sides."""
     for _ in range(400):
         data = maker.record(14)
         for room in sorted(rooms(r, len(data))):
             yield placed(r, 14, 0, room, data)
     for _ in range(400):
         data = maker.record(13)
-        if (items_of(13, data) or 0) > CRATE_CAPACITY:
+        if not fits_both(13, data):
             yield placed(r, 13, own_selector(13, data), ENOUGH, data)
+    for cap, most in CAPACITIES.items():
+        for count in sorted({*most, *(least + 1 for least in most)}):
+            data = maker.capability(cap, count)
+            for room in sorted(rooms(r, len(data))):
+                yield placed(r, 15, cap, room, data, b'', r.choice((NO_INDEX, 0, count - 1, count)))
+            yield placed(r, 15, r.choice(codes_of(15)), ENOUGH, data[:-1])
 
 
 def two_forms(r, maker):
@@ -198,7 +217,7 @@ def held_by(kind, data, form=OURS):
 def read_by_us(case):
     """The record of a case; none if we do not read it."""
     try:
-        return [Held(case.kind, case.selector, case.first, case.second)]
+        return [Held(case.kind, case.code, case.first, case.second)]
     except Unread:
         return []
 
@@ -210,30 +229,29 @@ def arms_of(name):
 def wanted_arms():
     """The kind, the union by its turn, its arm, the code; of kinds 2 and 11 both arms, which come from two records."""
     for kind, names in UNIONS.items():
-        codes = TAGS if kind == 13 else ALGS
         for turn, name in enumerate(names):
-            yield from product([kind], [turn], arms_of(name), codes)
+            yield from product([kind], [turn], arms_of(name), codes_of(kind))
         if kind in (2, 11):
-            yield from product([kind], ['both'], product(*map(arms_of, names)), codes)
+            yield from product([kind], ['both'], product(*map(arms_of, names)), codes_of(kind))
 
 
 def met_arms(case):
     for held in read_by_us(case):
         met = tuple(union.arm for union in held.target.unions())
-        yield from ((case.kind, turn, arm, case.selector) for turn, arm in enumerate(met))
-        yield case.kind, 'both', met, case.selector
+        yield from ((case.kind, turn, arm, case.code) for turn, arm in enumerate(met))
+        yield case.kind, 'both', met, case.code
 
 
 def wanted_indices():
-    """A byte field with each index that one can have, an item with each index within the crate's capacity; and none."""
-    yield from ((kind, 'field', index) for kind, count in BYTE_FIELDS.items() for index in range(count))
-    yield from product((13, 14), ['item'], range(CRATE_CAPACITY))
-    yield from product(range(1, 15), ('no field', 'no item'), [None])
+    """A byte field with each index that one can have, an item with each index that both sides can have; and none."""
+    for what, counts in (('field', BYTE_FIELDS), ('item', MOST_ITEMS)):
+        yield from ((kind, what, index) for kind, count in counts.items() for index in range(count))
+    yield from product(KINDS, ('no field', 'no item'), [None])
 
 
 def met_indices(case):
     for held in read_by_us(case):
-        items = held.items() or 0 if case.kind in (13, 14) else 0
+        items = held.items() or 0 if case.kind in MOST_ITEMS else 0
         yield (case.kind, 'field', case.index) if case.index < len(held.byte_fields) else (case.kind, 'no field', None)
         yield (case.kind, 'item', case.index) if case.index < items else (case.kind, 'no item', None)
 
@@ -241,7 +259,7 @@ def met_indices(case):
 def require_complete(made):
     """Stops unless every arm met every code where there was room enough, and everything that can be asked by index was asked."""
     under = {key for case in made if case.kind in UNIONS and case.room == ENOUGH for key in met_arms(case)}
-    indices = {key for case in made if case.kind in range(1, 15) and case.has_index for key in met_indices(case)}
+    indices = {key for case in made if case.kind in KINDS and case.has_index for key in met_indices(case)}
     for what, wanted, met in (('arm under a code', wanted_arms(), under), ('index', wanted_indices(), indices)):
         missing = [key for key in wanted if key not in met]
         if missing:

@@ -7,9 +7,13 @@ in docs/DIFFERENCES.md, and what can only come up on a 16-bit machine or behind 
 import re
 from typing import NamedTuple
 
+from adapt import LISTS
+
 UNION = re.compile(r'^tpmu_view!\(.*?^\}\);', re.M | re.S)
 MARSHAL = re.compile(r'^impl TpmMarshal for (\w+) \{.*?^\}', re.M | re.S)
-NOT_OURS = ('TpmuCapabilities', 'TpmuNvPublic2')
+NOT_OURS = ('TpmuNvPublic2',)
+# A code of each type of selector that has no arm in the unions that are ours.
+WITHOUT_ARM = {'TpmSt': 'TpmSt::FuManifest', 'TpmAlgId': 'TpmAlgId::Cmac', 'TpmCap': 'TpmCap::PcrProperties'}
 
 # What is read. Each is made wherever the old text stands, one at a time.
 READING = {
@@ -22,8 +26,10 @@ READING = {
         ('Tpm2bPublicKeyRsa, MAX_RSA_KEY_BYTES', 'Tpm2bPublicKeyRsa, MAX_SENSITIVE_DATA'),
         ('Tpm2bSymKey, MAX_SYM_KEY_BYTES', 'Tpm2bSymKey, MAX_DIGEST_SIZE'),
         ('Tpm2bData, MAX_DATA_SIZE', 'Tpm2bData, MAX_DIGEST_SIZE'),
-        ('TpmlPcrSelection, TpmsPcrSelection, 8', 'TpmlPcrSelection, TpmsPcrSelection, 7'),
-        ('TpmlPcrSelection, TpmsPcrSelection, 8', 'TpmlPcrSelection, TpmsPcrSelection, 9'),
+        *((f'{name}, {most}', f'{name}, {most + more}')
+          for name, most in (*((name, crates) for name, (crates, _) in LISTS.items()), ('TpmlHandle, crate::basic::TpmUint32', 128))
+          for more in (-1, 1)),
+        ('TpmlHandle, crate::basic::TpmUint32', 'TpmlHandle, crate::basic::TpmUint16'),
     ],
     'data/tpmu.rs': [
         ('Some(20)', 'Some(21)'), ('Some(24)', 'Some(20)'), ('Some(32)', 'Some(24)'), ('Some(48)', 'Some(64)'), ('Some(64)', 'Some(48)'),
@@ -32,6 +38,7 @@ READING = {
         ('needed: digest_size', 'needed: digest_size + 1'),
         ('available: buf.len(),', 'available: digest_size,'), ('available: buf.len(),', 'available: 0,'),
         ('value: u64::from(tag.value())', 'value: u64::from(tag.value()) + 1'),
+        ('Self::PpCommands(cmds) | Self::AuditCommands(cmds) => cmds.len()', 'Self::PpCommands(cmds) | Self::AuditCommands(cmds) => cmds.len() + 1'),
     ],
     'data/tpmt.rs': [
         ('        if algorithm == TpmAlgId::Null {\n            return Ok((\n', '        if algorithm == TpmAlgId::Xor {\n            return Ok((\n'),
@@ -79,6 +86,7 @@ WRITING = {
         ('digest.deref().len() == size', 'digest.deref().len() >= size'),
         ('digest_size(tag).is_some_and(|size| digest.deref().len() == size)', '!digest.deref().is_empty()'),
         ('Self::Digest(d) => writer.write_bytes(d)', 'Self::Digest(d) => writer.write_bytes(&d[1..])'),
+        ('PpCommands(TpmlCc): TpmCap::PpCommands', 'PpCommands(TpmlCc): TpmCap::PpCommands|TpmCap::AuditCommands'),
         ('Self::Digest(d) => d.deref().len()', 'Self::Digest(d) => d.deref().len() + 2'),
     ],
     'data/tpmt.rs': [
@@ -162,7 +170,7 @@ def selectors(path, text):
             continue
         for hit in re.finditer(r'(?<=[:|] )Tpm\w+::\w+|(?<=\|)Tpm\w+::\w+', table.group()):
             at = table.start() + hit.start()
-            other = 'TpmSt::FuManifest' if hit.group().startswith('TpmSt') else 'TpmAlgId::Cmac'
+            other = WITHOUT_ARM[hit.group().split('::')[0]]
             yield Change(path, f'{union}: {hit.group()} is {other}', text[:at] + other + text[at + len(hit.group()):], 'reading')
 
 

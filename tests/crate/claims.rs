@@ -8,7 +8,7 @@ mod words;
 use std::fmt::Debug;
 use tpm2_protocol::{
     TpmCast, TpmError, TpmField, TpmMarshal, TpmResult, TpmSized, TpmUnmarshal, TpmUnmarshalTagged, TpmWriter,
-    basic::{TpmBuffer, TpmList, TpmUint16, Tpml},
+    basic::{TpmBuffer, TpmList, TpmUint16, TpmUint32, Tpml},
     constant::{MAX_DIGEST_SIZE, TPM_MAX_COMMAND_SIZE},
     data::*,
     frame::Fault,
@@ -70,8 +70,8 @@ fn cut(offset: usize, needed: usize, available: usize) -> Read {
     Err(TpmError::UnexpectedEnd { offset, needed, available })
 }
 
-fn too_many(actual: usize) -> Read {
-    Err(TpmError::TooManyItems { offset: 0, limit: 8, actual })
+fn too_many(limit: usize, actual: usize) -> Read {
+    Err(TpmError::TooManyItems { offset: 0, limit, actual })
 }
 
 fn fault(fault: Fault, offset: usize, value: usize) -> Read {
@@ -101,9 +101,9 @@ fn items(text: &str) -> Vec<Option<String>> {
 fn lists(t: &mut Tally) {
     let item = || Some("000b00".to_string());
     let nine = format!("00000009{}", "000b00".repeat(9));
-    t.text("2.1 nine items: TooManyItems, limit 8, actual 9", walkers(&nine), [9; 4].map(too_many));
-    t.text("2.1 00000009: the same", walkers("00000009"), [9; 4].map(too_many));
-    t.text("2.1 00000011: both sides refuse for the count", walkers("00000011"), [17; 4].map(too_many));
+    t.text("2.1 nine items: TooManyItems, limit 8, actual 9", walkers(&nine), [9; 4].map(|n| too_many(8, n)));
+    t.text("2.1 00000009: the same", walkers("00000009"), [9; 4].map(|n| too_many(8, n)));
+    t.text("2.1 00000011: both sides refuse for the count", walkers("00000011"), [17; 4].map(|n| too_many(8, n)));
     t.text("2.1 00000001 by Tpml::cast: accepted", Tpml::<8>::cast(&bytes("00000001")).map(Tpml::len), Ok(4));
     let five = bytes("00000000 00");
     t.text("2.1 00000000 00 by Tpml::cast: accepted", Tpml::<8>::cast(&five).map(Tpml::len), Ok(5));
@@ -360,9 +360,78 @@ fn two_forms(t: &mut Tally) {
     t.rebuilt("2.10 kinds 5 to 8, Ecdaa with Hash: writes 001A 000B", all, std::array::from_fn(|_| (Ok(()), "001a000b".to_string())));
 }
 
+/// The capabilities that have an arm: an item of the list, and how many the list takes.
+const CAPABILITIES: [(TpmCap, &str, usize); 10] = [
+    (TpmCap::Algs, "000b00000004", 64),
+    (TpmCap::Handles, "40000001", 128),
+    (TpmCap::Commands, "0000017a", 256),
+    (TpmCap::PpCommands, "0000017a", 256),
+    (TpmCap::AuditCommands, "0000017a", 256),
+    (TpmCap::Pcrs, "000b00", 8),
+    (TpmCap::TpmProperties, "0000010000000000", 64),
+    (TpmCap::EccCurves, "0003", 64),
+    (TpmCap::AuthPolicies, "4000000b0010", 8),
+    (TpmCap::Act, "400001100000000000000000", 8),
+];
+
+/// What the union alone answers, by `unmarshal_tagged` and as a view.
+fn by_union(capability: TpmCap, text: &str) -> [Read; 2] {
+    let input = bytes(text);
+    let taken = |tail: &[u8]| (input.len() - tail.len(), hex(tail));
+    let read = TpmuCapabilities::unmarshal_tagged(capability, &input).map(|(_, tail)| taken(tail));
+    [read, TpmuCapabilities::cast_tagged(capability, &input).map(|(_, tail)| taken(tail))]
+}
+
+fn with_no_items(capability: TpmCap) -> TpmuCapabilities {
+    TpmuCapabilities::unmarshal_tagged(capability, &[0; 4]).expect("an empty list").0
+}
+
+fn counted(item: &str, count: usize) -> String {
+    format!("{count:08x}{}", item.repeat(count))
+}
+
+fn capability_lists(t: &mut Tally) {
+    let one_more = CAPABILITIES.map(|(capability, _, most)| by_union(capability, &format!("{:08x}", most + 1)));
+    let refused = CAPABILITIES.map(|(_, _, most)| [too_many(most, most + 1), too_many(most, most + 1)]);
+    t.text("2.1 each capability's list: TooManyItems with one item more than it takes", one_more, refused);
+    let full = CAPABILITIES.map(|(capability, item, most)| by_union(capability, &counted(item, most)));
+    let taken = CAPABILITIES.map(|(_, item, most)| [consumed(4 + most * item.len() / 2, ""), consumed(4 + most * item.len() / 2, "")]);
+    t.rebuilt("2.1 each capability's list: read with as many items as it takes", full, taken);
+    let commands = ["00000002", "00000003", "00000004"].map(|code| read::<TpmsCapabilityData>(&format!("{code}{}", counted("0000017a", 129))));
+    t.rebuilt("2.1 kind 15, 129 commands: read, 524 bytes", commands, std::array::from_fn(|_| consumed(524, "")));
+    t.rebuilt("2.1 kind 15, 00000002 00000081: the first item is missing", read::<TpmsCapabilityData>("00000002 00000081"), end(0, 4, 0));
+    t.rebuilt("2.1 kind 15, 00000000 00000041: TooManyItems", read::<TpmsCapabilityData>("00000000 00000041"), too_many(64, 65));
+    let handed_back = CAPABILITIES.map(|(capability, ..)| by_union(capability, "00000000 ff"));
+    t.text("2.2 each capability's list: the union hands the tail back", handed_back, std::array::from_fn(|_| [consumed(4, "ff"), consumed(4, "ff")]));
+    t.rebuilt("1 a handle is any number", by_union(TpmCap::Handles, "00000001 ffffffff"), [consumed(8, ""), consumed(8, "")]);
+}
+
+fn capabilities(t: &mut Tally) {
+    let codes: Vec<TpmCap> = (0..=u32::from(u16::MAX)).filter_map(|code| TpmCap::try_from(code).ok()).collect();
+    let matching: Vec<_> = CAPABILITIES
+        .iter()
+        .flat_map(|(arm, ..)| codes.iter().filter(|code| with_no_items(*arm).matches_tag(**code)).map(|code| (arm.value(), code.value())))
+        .collect();
+    let own = CAPABILITIES.map(|(arm, ..)| (arm.value(), arm.value())).to_vec();
+    t.text("2.5 capabilities: each arm under its own code alone, PpCommands not under AuditCommands", matching, own);
+    let armless: Vec<_> = codes.iter().filter(|code| by_union(**code, "00000000") == [no_arm(0, 7), no_arm(0, 7)]).map(|code| code.value()).collect();
+    t.text("2.5 capability 7: the union alone has no arm", armless, vec![7]);
+    t.rebuilt("2.4 kind 15, 00000007: offset 0, value 7", read::<TpmsCapabilityData>("00000007"), no_arm(0, 7));
+    let policy = "00000009 00000001 40000001 0001";
+    t.rebuilt("2.4 kind 15, a policy under Rsa: offset 2, value 1, moved by its own tag alone", read::<TpmsCapabilityData>(policy), no_arm(2, 1));
+    let wrong = |capability, arm| written(&TpmsCapabilityData { capability, data: with_no_items(arm) }, 99);
+    let refused = |value| (Err(TpmError::rebuilt(Fault::Arm, 0, value)), String::new());
+    t.rebuilt("2.6 kind 15, EccCurves with Algs: offset 0, value 8", wrong(TpmCap::EccCurves, TpmCap::Algs), refused(8));
+    t.rebuilt("2.6 kind 15, AuditCommands with PpCommands: offset 0, value 4", wrong(TpmCap::AuditCommands, TpmCap::PpCommands), refused(4));
+    t.text("2.8 the capabilities' union: TPM_MAX_COMMAND_SIZE", TpmuCapabilities::SIZE, TPM_MAX_COMMAND_SIZE);
+    let found = [TpmlHandle::SIZE, TpmlCc::SIZE, TpmlEccCurve::SIZE, TpmlTaggedPolicy::SIZE];
+    let sizes = [4 + 128 * TpmUint32::SIZE, 4 + 256 * TpmCc::SIZE, 4 + 64 * TpmEccCurve::SIZE, 4 + 8 * TpmsTaggedPolicy::SIZE];
+    t.text("2.8 a capability's list: 4 + its capacity times an item's SIZE", found, sizes);
+}
+
 fn main() {
     let mut t = Tally::default();
-    for part in [lists, tails, available, places, settled, arms, wrong_arms, room, owned, sizes, two_forms] {
+    for part in [lists, tails, available, places, settled, arms, wrong_arms, room, owned, sizes, two_forms, capability_lists, capabilities] {
         part(&mut t);
     }
     println!("{} claims hold by the text, {} more with a rebuilt module, {} fail", t.text, t.rebuilt, t.failed);

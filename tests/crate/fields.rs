@@ -82,8 +82,8 @@ macro_rules! arms { ($by:ident: $($ty:ty { $($(#[$only:meta])? $arm:ident),* $(;
     }
 })* } }
 
-number!(TpmUint8: 1, TpmUint16: 2, TpmUint32: 4, TpmUint64: 8, TpmaObject: 4);
-code!(TpmAlgId: 2, TpmEccCurve: 2, TpmSt: 2);
+number!(TpmUint8: 1, TpmUint16: 2, TpmUint32: 4, TpmUint64: 8, TpmaObject: 4, TpmaAlgorithm: 4, TpmaCc: 4, TpmCc: 4, TpmaAct: 4);
+code!(TpmAlgId: 2, TpmEccCurve: 2, TpmSt: 2, TpmCap: 4);
 
 impl Fields for TpmiYesNo {
     fn list(&self, out: &mut Lines) {
@@ -99,10 +99,11 @@ impl<const N: usize> Fields for TpmBuffer<N> {
     }
 }
 
+/// A list or an item, as far as it is written. That `marshal` refuses one that was read is said where the record is written.
 fn written(part: &impl TpmMarshal) -> Vec<u8> {
-    let mut room = [0; 256];
+    let mut room = [0; 2048];
     let mut writer = TpmWriter::new(&mut room);
-    part.marshal(&mut writer).expect("room enough");
+    let _ = part.marshal(&mut writer);
     writer.as_bytes().to_vec()
 }
 
@@ -150,6 +151,7 @@ arms! { TEXT:
     TpmuSensitiveComposite { Rsa, Ecc, Bits, Sym }
     TpmuSignature { Rsassa, Rsapss, Ecdsa, Ecdaa, Sm2, Ecschnorr, Hmac; Null }
     TpmuAttest { Certify, Creation, Quote, CommandAudit, SessionAudit, Time, Nv, NvDigest }
+    TpmuCapabilities { Algs, Handles, Commands, PpCommands, AuditCommands, Pcrs, TpmProperties, EccCurves, AuthPolicies, Act }
 }
 
 fields! { TEXT:
@@ -188,6 +190,11 @@ fields! { REBUILT:
     TpmsNvCertifyInfo { index_name, offset, nv_contents }
     TpmsNvDigestCertifyInfo { index_name, nv_digest }
     TpmsPcrSelection { hash, pcr_select }
+    TpmsAlgProperty { alg, alg_properties }
+    TpmsTaggedProperty { property, value }
+    TpmsTaggedPolicy { handle, policy_hash }
+    TpmsActData { handle, timeout, attributes }
+    TpmsCapabilityData { capability, data }
 }
 
 #[cfg(adapted)]

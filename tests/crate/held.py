@@ -8,12 +8,14 @@ selector, the room. Two arms have another form in the crate (2.10); a record can
 from functools import cache
 from typing import NamedTuple
 
-from inputs import ALGS, ATTEST, CURVES, DIGESTS, be
+from inputs import ALGS, ATTEST, CAPACITIES, CAPS, CURVES, DIGESTS, be
 
 XOR, NULL, ECDAA = 0x0A, 0x10, 0x1A
 HASHED = (0x14, 0x16, 0x18, ECDAA, 0x1B, 0x1C)
 CIPHERS = {0x06: 'Aes', 0x13: 'Sm4', 0x26: 'Camellia', XOR: 'Xor', NULL: 'Null'}
 OBJECTS = {0x08: 'KeyedHash', 0x25: 'SymCipher', 0x01: 'Rsa', 0x23: 'Ecc', NULL: 'Null'}
+CAPABILITIES = {0: 'Algs', 1: 'Handles', 2: 'Commands', 3: 'PpCommands', 4: 'AuditCommands', 5: 'Pcrs', 6: 'TpmProperties', 8: 'EccCurves',
+                9: 'AuthPolicies', 10: 'Act'}
 
 
 class Form(NamedTuple):
@@ -41,6 +43,7 @@ def arms(form):
         'unique': OBJECTS,
         'sensitive': {0x01: 'Rsa', 0x23: 'Ecc', 0x08: 'Bits', 0x25: 'Sym'},
         'signature': {0x14: 'Rsassa', 0x16: 'Rsapss', 0x18: 'Ecdsa', ECDAA: 'Ecdaa', 0x1B: 'Sm2', 0x1C: 'Ecschnorr', 0x05: 'Hmac', NULL: 'Null'},
+        'capabilities': CAPABILITIES,
         'attestation': {0x8014: 'Nv', 0x8015: 'CommandAudit', 0x8016: 'SessionAudit', 0x8017: 'Certify', 0x8018: 'Quote', 0x8019: 'Time',
                         0x801A: 'Creation', 0x801C: 'NvDigest'},
     }
@@ -62,8 +65,15 @@ LIMITS = {
 # The structure tags that the crate's TpmSt has here (rebuilt/data/enum.rs).
 TAGS = [0xC4, 0x8000, 0x8001, 0x8002, *ATTEST, 0x8021, 0x8022, 0x8023, 0x8024, 0x8025, 0x8029]
 
-CRATE_CAPACITY = 8  # of a list of PCR selections
-SELECTOR = 'selector'
+
+def codes_of(kind):
+    """What a selector of that kind can be in the crate."""
+    return {13: TAGS, 15: CAPS}.get(kind, ALGS)
+
+
+class Selector(NamedTuple):
+    """The place of a structure's selector."""
+    size: int
 
 
 class Union:
@@ -77,10 +87,11 @@ class Union:
 
 
 class Structure:
-    """Parts in wire order: bytes are a field, SELECTOR is the place of the selector, and there are unions and structures."""
+    """Parts in wire order: bytes are a field, and there are the selector's place, unions and structures. NO_ARM is what the crate calls an arm
+    that is not the selector's: `Arm`, where the structure and its test are rebuilt."""
 
-    def __init__(self, selector, parts):
-        self.selector, self.parts = selector, parts
+    def __init__(self, selector, parts, no_arm='VariantNotAvailable'):
+        self.selector, self.parts, self.no_arm = selector, parts, no_arm
 
     def unions(self):
         return [part for part in self.parts if isinstance(part, Union)]
@@ -101,8 +112,8 @@ class OtherArm(ValueError):
 
 
 class Reader:
-    """Takes a record apart, with the two arms in that form, and keeps its byte fields. What a record of kind 2, 5 to 9 or 11 is refused for is
-    raised; of the other kinds a record is taken to be legal."""
+    """Takes a record apart, with the two arms in that form, and keeps its byte fields. What a record of kind 2, 5 to 9, 11, 14 or 15 is refused
+    for is raised, but for a list's count, which is not judged; of the other kinds a record is taken to be legal."""
 
     def __init__(self, data, form=OURS, which='first'):
         self.data, self.arms, self.which = data, arms(form), which
@@ -149,13 +160,31 @@ class Reader:
     def clock(self):
         return self.numbers(8, 4, 4, 1)
 
-    def items(self):
+    def items(self, arm='Pcrs'):
         start, parts = self.at, [self.take(4)]
+        kept = len(self.byte_fields)
         for _ in range(int.from_bytes(parts[0], 'big')):
-            parts += self.numbers(2, 1)
-            parts.append(self.take(parts[-1][0]))
-        self.byte_fields.append(self.data[start:self.at])
+            parts += self.item(arm)
+        self.byte_fields[kept:] = [self.data[start:self.at]]
         return parts
+
+    def item(self, arm):
+        if arm == 'Pcrs':
+            return [self.code(), *self.selection()]
+        if arm == 'Algs':
+            return [self.code(), *self.numbers(4)]
+        if arm == 'EccCurves':
+            return [self.code(CURVES)]
+        if arm == 'AuthPolicies':
+            handle, selector = self.take(4), self.selector()
+            return [handle, be(selector, 2), *self.union('digest', selector).parts]
+        return self.numbers(*{'TpmProperties': (4, 4), 'Act': (4, 4, 4)}.get(arm, (4,)))
+
+    def selection(self):
+        size = self.take(1)
+        if size[0] > 4:
+            self.refuse('Length', size[0])
+        return [size, self.take(size[0])]
 
     def union(self, name, selector):
         arm = self.arms[name].get(selector)
@@ -183,6 +212,8 @@ class Reader:
             return [self.tagged('digest')] if arm == 'Hmac' else [self.code(), *self.buffers(*((512,) if arm.startswith('Rsa') else (66, 66)))]
         if name == 'attestation':
             return self.attested(arm)
+        if name == 'capabilities':
+            return self.items(arm)
         return self.buffers(*LIMITS[name, arm])
 
     def parameters(self, arm):
@@ -210,11 +241,11 @@ class Reader:
 
     def tagged(self, name):
         selector = self.selector()
-        return Structure(selector, [SELECTOR, self.union(name, selector)])
+        return Structure(selector, [Selector(2), self.union(name, selector)])
 
     def cipher(self):
         selector = self.selector()
-        return Structure(selector, [SELECTOR, self.union('key bits', selector), self.union('mode', selector)])
+        return Structure(selector, [Selector(2), self.union('key bits', selector), self.union('mode', selector)])
 
     def record(self, kind):
         if kind in UNION_OF_KIND:
@@ -223,6 +254,9 @@ class Reader:
             return self.cipher()
         if kind == 14:
             return Structure(None, self.items())
+        if kind == 15:
+            selector = int.from_bytes(self.take(4), 'big')
+            return Structure(selector, [Selector(4), self.union('capabilities', selector)], 'Arm')
         magic = self.numbers(4) if kind == 13 else []
         selector = self.number() if kind == 13 else self.selector()
         if kind == 11:
@@ -231,7 +265,8 @@ class Reader:
             ahead, unions = self.buffers(64, 64), ('sensitive',)
         else:
             ahead, unions = self.buffers(66, 66) + self.clock() + self.numbers(8), ('attestation',)
-        return Structure(selector, [*magic, SELECTOR, *ahead, *(self.union(name, selector) for name in unions)])
+        parts = [*magic, Selector(2), *ahead, *(self.union(name, selector) for name in unions)]
+        return Structure(selector, parts, 'Arm') if kind == 13 else Structure(selector, parts)
 
 
 class Refused(Exception):
@@ -252,10 +287,10 @@ class Room:
     def structure(self, it):
         short = it.is_cipher() and it.selector == NULL  # neither union is looked at, and both are left out
         if not short and not it.fits():
-            raise Refused('VariantNotAvailable', len(self.data), it.selector)
+            raise Refused(it.no_arm, len(self.data), it.selector)
         for part in it.parts:
-            if part is SELECTOR:
-                self.put(be(it.selector, 2))
+            if isinstance(part, Selector):
+                self.put(be(it.selector, part.size))
             elif not isinstance(part, Union):
                 self.part(part)
             elif not short:
@@ -272,10 +307,10 @@ class Room:
 def judged(it, place, listed=ALGS):
     """Where the structure ends in our output; or the first refusal in wire order."""
     for part in it.parts:
-        if part is SELECTOR:
+        if isinstance(part, Selector):
             if it.selector not in listed:
                 raise Refused(2, place, it.selector)
-            place += 2
+            place += part.size
         elif isinstance(part, Union):
             if it.selector not in part.arms:
                 raise Refused(3, place, it.selector)
@@ -304,7 +339,7 @@ def size_of(parts, stop=None):
             if found:
                 return size, True
         else:
-            size += 2 if part is SELECTOR else len(part)
+            size += part.size if isinstance(part, Selector) else len(part)
     return size, False
 
 
@@ -346,7 +381,7 @@ class Held:
         if self.kind == 14:
             return int.from_bytes(self.record.parts[0], 'big')
         held = self.record.unions()[0]
-        return int.from_bytes(held.parts[0], 'big') if (held.name, held.arm) == ('attestation', 'Quote') else None
+        return int.from_bytes(held.parts[0], 'big') if held.name == 'capabilities' or held.arm == 'Quote' else None
 
     def sort(self, room):
         """What the case is about: how the two sides' answers are related follows from it."""
@@ -361,7 +396,7 @@ class Held:
     def ours(self, room):
         """Our answer: `again`, or number, place and value."""
         try:
-            size = judged(self.record, 0, ATTEST if self.kind == 13 else ALGS)
+            size = judged(self.record, 0, ATTEST if self.kind == 13 else codes_of(self.kind))
         except Refused as refusal:
             return refusal.args
         return ('again',) if size <= room else (9, 0, size)
@@ -391,16 +426,31 @@ def has_two_forms(kind, data):
     return kind in (2, *range(5, 10), 11) and outcome(kind, data, CRATES) != outcome(kind, data, OURS)
 
 
+def capacities(kind, data):
+    """How many items a list takes in the crate, and how many here; none if a record of that kind that begins so has no list."""
+    if kind == 15:
+        return CAPACITIES.get(int.from_bytes(data[:4], 'big'), (0, 0))
+    return CAPACITIES[5] if kind in (13, 14) else (0, 0)
+
+
 def claimed_items(kind, data):
     """The count of the list that the bytes have; None if there is no list in reach of a reader."""
     reader = Reader(data)
     try:
-        if kind == 13:
-            if reader.numbers(4, 2) != [b'\xffTCG', b'\x80\x18'] or not is_legal_ahead(reader):
-                return None
-        return int.from_bytes(reader.take(4), 'big') if kind in (13, 14) else None
+        if kind == 13 and (reader.numbers(4, 2) != [b'\xffTCG', b'\x80\x18'] or not is_legal_ahead(reader)):
+            return None
+        if kind == 15:
+            reader.take(4)
+        return int.from_bytes(reader.take(4), 'big') if any(capacities(kind, data)) else None
     except ValueError:
         return None
+
+
+def too_long_for(kind, data):
+    """`crate` or `us`, if the list that the bytes have is too long for that side alone; else ''."""
+    crates, ours = capacities(kind, data)
+    count = claimed_items(kind, data) or 0
+    return '' if (count > crates) == (count > ours) else 'crate' if count > crates else 'us'
 
 
 def is_legal_ahead(reader):

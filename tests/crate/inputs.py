@@ -16,11 +16,17 @@ ROOT = Path(__file__).resolve().parents[2]
 VECTORS = ROOT / 'tests/vectors'
 # What `deposits` takes.
 GREATEST = 4096
+KINDS = range(1, 16)
 
 ALGS = [1, *range(3, 9), *range(0xA, 0xE), 0x10, *range(0x12, 0x1E), *range(0x20, 0x24), *range(0x25, 0x2F), *range(0x3F, 0x45)]
 CURVES = [*range(6), 0x10, 0x11, 0x20, 0x30, 0x31, 0x32, 0x40, 0x41]
 ATTEST = [0x8014, 0x8015, 0x8016, 0x8017, 0x8018, 0x8019, 0x801A, 0x801C]
 DIGESTS = {4: 20, 0x2C: 24, 0xB: 32, 0x12: 32, 0x27: 32, 0x2D: 32, 0xC: 48, 0x28: 48, 0xD: 64, 0x29: 64, 0x2E: 64, 0x10: 0}
+# The capabilities; 7 has no arm. Of each of the others, how many items its list takes in the crate (text/data/mod.rs), and here.
+CAPS = range(11)
+CAPACITIES = {
+    0: (64, 128), 1: (128, 128), 2: (256, 128), 3: (256, 128), 4: (256, 128), 5: (8, 16), 6: (64, 128), 8: (64, 128), 9: (8, 16), 10: (8, 16),
+}
 # Selectors whose arm has a hash in the signing schemes, but for Hmac, and all that have an arm in the asymmetric ones.
 HASHED = [0x14, 0x16, 0x18, 0x1A, 0x1B, 0x1C]
 ASYM = [*HASHED, 0x17, 0x19, 0x1D, 0x15, 0x10]
@@ -180,14 +186,48 @@ class Maker:
     def k14(self):
         r = self.r
         n = r.choice((0, 1, 1, 2, 2, 3, 4, 5, 6, 7, 8, 8, 9, 16)) if r.random() < .9 else r.randrange(17)
-        items = b''
-        for _ in range(n):
-            size = r.randrange(5)
-            claimed = r.randrange(256) if self.fault() else size
-            items += self.alg() + be(claimed, 1) + r.randbytes(size)
+        return self.counted(n, self.selection, (8, 16))
+
+    def selection(self):
+        size = self.r.randrange(5)
+        claimed = self.r.randrange(256) if self.fault() else size
+        return self.alg() + be(claimed, 1) + self.r.randbytes(size)
+
+    def counted(self, n, item, capacities):
+        """A list of so many items; at a fault its count is another."""
+        r = self.r
+        items = b''.join(item() for _ in range(n))
         if self.fault():
-            n = r.choice((n + 1, max(0, n - 1), 8, 9, 16, 17, 18, 255, 256, 65536, 2**31, 2**32 - 1, r.randrange(2**32)))
+            about = [most + more for most in capacities for more in (0, 1)]
+            n = r.choice((n + 1, max(0, n - 1), *about, 18, 255, 256, 65536, 2**31, 2**32 - 1, r.randrange(2**32)))
         return be(n, 4) + items
+
+    def cap(self):
+        r = self.r
+        if self.fault():
+            return r.choice((7, 11, 0x100, r.choice(CAPS), r.choice(NEAR), r.randrange(2**32)))
+        return r.choice(list(CAPACITIES))
+
+    def cap_item(self, cap):
+        """An item of the list of that capability."""
+        if cap == 5:
+            return self.selection()
+        if cap == 9:
+            return self.num(4) + self.k1()
+        code = {0: self.alg, 8: lambda: self.code(CURVES)}.get(cap, bytes)()
+        return code + b''.join(self.num(4) for _ in range({6: 2, 8: 0, 10: 3}.get(cap, 1)))
+
+    def capability(self, cap, n):
+        """A capability with so many items; one that has no list has that of another behind it."""
+        listed = cap if cap in CAPACITIES else self.r.choice(list(CAPACITIES))
+        return be(cap, 4) + self.counted(n, lambda: self.cap_item(listed), CAPACITIES[listed])
+
+    def k15(self):
+        """Lists are short for the most part, and else as long as one of the two sides takes, or as both."""
+        r, cap = self.r, self.cap()
+        lesser, greater = sorted(CAPACITIES.get(cap, (64, 128)))
+        n = r.choice((0, 1, 1, 2, 2, 3, 4, 5, 6, 7, 8, 8, lesser, lesser + 1, greater)) if r.random() < .9 else r.randrange(greater + 1)
+        return self.capability(cap, n)
 
     def record(self, kind):
         return getattr(self, f'k{kind}')()
@@ -219,7 +259,7 @@ class Out:
         self.count = 0
 
     def put(self, sort, kind, data):
-        if 1 <= kind <= 14 and len(data) <= GREATEST:
+        if kind in KINDS and len(data) <= GREATEST:
             self.lines.write(f'{kind} {data.hex()} {sort}\n')
             self.framed.write(be(len(data) + 1, 2) + bytes([kind]) + data)
             self.count += 1
@@ -230,12 +270,12 @@ class Out:
 
 
 def real_records():
-    """Each different real record of kinds 1 to 14: its kind, its bytes, and its fields, or None where it is refused."""
+    """Each different real record: its kind, its bytes, and its fields, or None where it is refused."""
     seen = {}
     for name in ('real.jsonl', 'real-refused.jsonl'):
         with open(VECTORS / name, encoding='utf-8') as lines:
             for entry in map(json.loads, lines):
-                if 1 <= entry['kind'] <= 14:
+                if entry['kind'] in KINDS:
                     seen.setdefault((entry['kind'], bytes.fromhex(entry['hex'])), entry.get('fields'))
     return [(kind, data, fields) for (kind, data), fields in seen.items()]
 
@@ -270,7 +310,8 @@ def smallest_of_each_layout(real):
 # Enough for any arm of the parameters, and for any digest.
 PARMS = '000b 0043 000b 0010' + '00' * 72
 DIGEST = bytes(range(64)).hex()
-# Where two bytes take all 65,536 values: `*` in a record of that kind. They are a code, but for Ecdaa's count, and what follows Xor's hash.
+# Where two bytes take all 65,536 values: `*` in a record of that kind. They are a code, or half of one, but for Ecdaa's count, and what follows
+# Xor's hash.
 SWEEPS = [
     (1, '*'), (1, f'* {DIGEST}'),
     (2, '* 0080 0043'), (2, '* 000b 0043'), (2, '0006 0080 *'), (2, '000a * 0043'), (2, '000a 000b *'), (2, '0013 0080 *'), (2, '0026 0080 *'),
@@ -285,6 +326,8 @@ SWEEPS = [
     (12, '* 0000 0000 0000'), (12, '* 0000 0000'),
     (13, f'ff544347 * {"00" * 70}'), (13, f'ff544347 8015 0000 0000 {"00" * 33} * 0000 0000'),
     (14, '00000001 * 00'),
+    (15, '0000 * 00000000'), (15, '* 0008 00000000'), (15, '00000000 00000001 * 00000000'), (15, '00000005 00000001 * 00'),
+    (15, '00000008 00000001 *'), (15, f'00000009 00000001 40000001 * {DIGEST}'),
 ]
 
 
@@ -325,8 +368,31 @@ def put_damage(out, r, real):
             out.put('cut', kind, data[:r.randrange(len(data) + 1)])
         for _ in range(24):
             out.put('damage', kind, damaged(r, data))
-        for other in range(1, 15):
+        for other in KINDS:
             out.put('other-kind', other, data)
+
+
+# Where in an item its code stands.
+CODE_IN_ITEM = {0: 0, 5: 0, 8: 0, 9: 4}
+
+
+def put_capacities(out, r):
+    """Of each capability lists about the capacities of both sides, whole, cut, with a bad code in the last item; and every count up to 300 alone."""
+    maker = Maker(r)
+    for cap, (crates, ours) in CAPACITIES.items():
+        head = be(cap, 4)
+        for count in range(300):
+            out.put('capacity', 15, head + be(count, 4))
+        for count in sorted({1, 2, crates, crates + 1, ours, ours + 1}):
+            items = [maker.cap_item(cap) for _ in range(count)]
+            ahead = head + be(count, 4) + b''.join(items[:-1])
+            whole = ahead + items[-1]
+            for data in (whole, whole + r.randbytes(1), whole + r.randbytes(r.randrange(2, 20)), whole[:-1], ahead, ahead[:-1], whole[:-2]):
+                out.put('capacity', 15, data)
+            if cap in CODE_IN_ITEM:
+                at = len(ahead) + CODE_IN_ITEM[cap]
+                for code in (0, 1, 2, 6, 0x10, 0xFFFF):
+                    out.put('capacity', 15, whole[:at] + be(code, 2) + whole[at + 2:])
 
 
 def put_sweeps(out):
@@ -337,7 +403,7 @@ def put_sweeps(out):
 
 def put_random(out, r, count):
     maker = Maker(r)
-    kinds = [*range(1, 9), 9, 9, 10, 10, 12, 12, 14, 14, 14, *[11] * 5, *[13] * 6]
+    kinds = [*range(1, 9), 9, 9, 10, 10, 12, 12, 14, 14, 14, *[11] * 5, *[13] * 6, *[15] * 3]
     for turn in range(count):
         kind = kinds[turn % len(kinds)]
         maker.rate = r.choice((0, 0, 0, .05, .1, .3))
@@ -361,6 +427,7 @@ def main(folder, count, seed):
     put_whole(out, r, real)
     put_small_changes(out, r, real)
     put_damage(out, r, real)
+    put_capacities(out, r)
     put_sweeps(out)
     put_random(out, r, int(count))
     out.close()

@@ -4,16 +4,15 @@ import re
 from collections import Counter
 from functools import cache
 
-from held import CRATES, INSIDE, OURS, Form, Held, OtherArm, Unread, claimed_items
-from inputs import ALGS
+from held import CRATES, INSIDE, OURS, Form, Held, OtherArm, Unread, claimed_items, codes_of, too_long_for
 
 NUMBERS = {'UnexpectedEnd': 1, 'End': 1, 'Code': 2, 'VariantNotAvailable': 3, 'Length': 4, 'TooManyItems': 5, 'Value': 6, 'TrailingData': 11}
 SHORT = 1  # the one refusal that says how many bytes there were
 TOLD = re.compile(r'm(?P<flags>[01]*) (?P<by>text|rebuilt) (?:again (?P<written>[0-9a-f]+)'
                   r'|err (?P<who>text|rebuilt) (?P<name>\w+) (?P<offset>\d+) (?P<value>\d+) (?P<left>-|[0-9a-f]+))'
                   r'(?: tail (?P<tail>\S+) field (?:none|(?P<field_by>text|rebuilt) (?P<field>\S+)) item (?P<item>\S+))?')
-LONG = range(9, 17)  # items that we read and the crate does not
 LIST = '2.1, 2.7: more items than the crate holds'
+COMMANDS = '2.1: more commands than we read'
 # Kinds of a case whose record can have the cipher Xor or the scheme Ecdaa.
 TWO_FORMS = (2, *range(5, 10), 11, *range(22, 28))
 XOR_FORM = '2.10: the cipher Xor, which has a mode in the crate'
@@ -44,7 +43,7 @@ def hold(what, found, wanted):
 
 def kind_read(case):
     """The kind of the record that the case reads."""
-    return {28: 13, 29: 12}.get(case.kind) or INSIDE.get(case.kind, (case.kind,))[0]
+    return {28: 13, 29: 12, 30: 15}.get(case.kind) or INSIDE.get(case.kind, (case.kind,))[0]
 
 
 def asked(case, told):
@@ -63,9 +62,7 @@ def crate_is_right(case, held, told):
     if wanted[0] == 'again':
         hold('what the crate writes', (told['written'],), wanted[1:])
         return
-    rebuilt = case.kind == 13 and wanted[0] == 'VariantNotAvailable'
-    name = ('rebuilt', 'Arm') if rebuilt else ('text', wanted[0])
-    hold('the crate\'s refusal', (told['who'], told['name']), name)
+    hold('the crate\'s refusal', (told['who'], told['name']), ('rebuilt' if wanted[0] == 'Arm' else 'text', wanted[0]))
     hold('the crate\'s refusal', (int(told['offset']), int(told['value']), told['left']), wanted[1:])
 
 
@@ -78,7 +75,7 @@ def our_line(case, held, told, sort):
     if sort == 'arm':
         hold('the value of the refusal', int(told['value']), value)
     if sort in ('arm', 'room'):
-        hold('the crate\'s refusal', told['name'], 'BufferOverflow' if sort == 'room' else 'Arm' if case.kind == 13 else 'VariantNotAvailable')
+        hold('the crate\'s refusal', told['name'], 'BufferOverflow' if sort == 'room' else held.target.no_arm)
     return refusal(case.kind, number, place, value)
 
 
@@ -91,7 +88,7 @@ def decided_by(case, told, sort):
 
 def judge_told(case, told, ours, count):
     """A case that the crate has. Answers its class, '' where the two sides agree."""
-    held = Held(case.kind, case.selector, case.first, case.second)
+    held = Held(case.kind, case.code, case.first, case.second)
     sort = held.sort(case.room)
     crate_is_right(case, held, told)
     wanted = [f'm {flag}' for flag in told['flags']] + [our_line(case, held, told, sort)]
@@ -140,13 +137,14 @@ def judge_unread(case, words, ours, count):
 def foreseen(case, form):
     """What the crate answers with its two arms in that form, but for who makes it and for the offset where a record is not read."""
     try:
-        held = Held(case.kind, case.selector, case.first, case.second, form)
+        held = Held(case.kind, case.code, case.first, case.second, form)
     except Unread as unread:
         return 'refused', *unread.args
     except OtherArm:
         return ('another arm',)
-    if case.selector not in ALGS or case.source:
-        return (f'no such record: {"source" if case.selector in ALGS else "selector"}',)
+    is_code = case.code in codes_of(case.kind)
+    if not is_code or case.source:
+        return (f'no such record: {"source" if is_code else "selector"}',)
     flags = ''.join('01'[union.chosen_by(held.target.selector)] for union in held.target.unions())
     if not case.has_index:
         return flags, held.crates(case.room), None, None
@@ -193,28 +191,37 @@ def judge_line(case, line, ours, count):
     raise Wrong('the crate is not at one with itself')
 
 
-def long_list(case):
-    """The count of a list that is too long for the crate, 0 if there is none; its bytes say so."""
-    claimed = claimed_items(kind_read(case), case.first)
-    return claimed if claimed in LONG else 0
+def long_for(case):
+    """The side that the case's list is too long for, if it is for one of the two alone; its bytes say so."""
+    return too_long_for(kind_read(case), case.first)
 
 
 def is_adapted(case):
-    """Whether we are held to the adapted text, in which lists have up to 16 items and the two arms our form."""
-    return bool(long_list(case) or parted(case))
+    """Whether we are held to the adapted text, in which lists have our capacities and the two arms our form."""
+    return bool(long_for(case) or parted(case))
+
+
+def long_list(case, line, ours):
+    """A list that is too long for one side: that side refuses its count, and the other goes on. The name of the difference, and who decides."""
+    count = claimed_items(kind_read(case), case.first)
+    if long_for(case) == 'crate':
+        hold('the crate\'s refusal of a list', line, f'refused first text TooManyItems 0 {count} 0')
+        return LIST, 'text'
+    hold('the crate\'s answer to a list that is too long here', essence(line), foreseen(case, OURS))
+    hold('our refusal of a list', ours, [refusal(case.kind, NUMBERS['TooManyItems'], case.first_at + 4, count)])
+    return COMMANDS, made_by(line)
 
 
 def judge(case, line, adapted, ours, count):
     """The class of the case, '' where the two sides agree. What is neither is raised.
 
-    LINE is the crate's answer, ADAPTED the adapted text's, in which there is no such class as these: a list that is too long for the crate, and
+    LINE is the crate's answer, ADAPTED the adapted text's, in which there is no such class as these: a list that is too long for one side, and
     the two arms that have another form there. In these the crate must answer as that class says, and we are held to the adapted text.
     """
     if not is_adapted(case):
         return judge_line(case, line, ours, count)
-    if long_list(case):
-        name, by = LIST, 'text'
-        hold('the crate\'s refusal of a list', line, f'refused first text TooManyItems 0 {long_list(case)} 0')
+    if long_for(case):
+        name, by = long_list(case, line, ours)
     else:
         name, by = parted(case), made_by(line)
         hold('the crate\'s answer in its own form', essence(line), foreseen(case, CRATES))

@@ -4,6 +4,7 @@
 use crate::answers::{Crates, Ours};
 use crate::forms::{Form, answer};
 use crate::unlike;
+use crate::words::{hex, number_of};
 
 const MAGIC: [u8; 4] = [0xff, 0x54, 0x43, 0x47];
 const QUOTE: u64 = 0x8018;
@@ -50,18 +51,41 @@ fn arm_place(input: &[u8]) -> Result<usize, Fault> {
     Ok(at + 9)
 }
 
+/// A list: how many items it takes in the crate and here, and with which numbers an item, or what follows the list, can be refused.
+struct List {
+    crates: u64,
+    here: u64,
+    numbers: &'static [u64],
+}
+
+const PCR_SELECTIONS: List = List { crates: 8, here: 16, numbers: &[1, 2, 4] };
+
+/// The list of a capability; none of a code that has none.
+fn list_of(capability: u64) -> Option<List> {
+    Some(match capability {
+        0 | 8 => List { crates: 64, here: 128, numbers: &[1, 2] },
+        1 => List { crates: 128, here: 128, numbers: &[1] },
+        2..=4 => List { crates: 256, here: 128, numbers: &[1] },
+        5 => PCR_SELECTIONS,
+        6 => List { crates: 64, here: 128, numbers: &[1] },
+        9 => List { crates: 8, here: 16, numbers: &[1, 2, 3] },
+        10 => List { crates: 8, here: 16, numbers: &[1] },
+        _ => return None,
+    })
+}
+
 /// What we answer to an input that the crate refuses.
 enum Here {
-    /// Read, or refused for what an item or the field behind the list can have, at that place or behind it.
-    From(usize),
+    /// Read, or refused with one of these numbers at that place or behind it.
+    From(usize, &'static [u64]),
     Refused { number: u64, place: usize, value: u64 },
 }
 
 impl Here {
     fn holds(&self, ours: &Ours) -> bool {
         match (self, ours) {
-            (Self::From(_), Ours::Read { .. }) => true,
-            (Self::From(first), Ours::Refused { number, place, .. }) => matches!(number, 1 | 2 | 4) && place >= first,
+            (Self::From(..), Ours::Read { .. }) => true,
+            (Self::From(first, numbers), Ours::Refused { number, place, .. }) => numbers.contains(number) && place >= first,
             (Self::Refused { number: n, place: p, value: v }, Ours::Refused { number, place, value, .. }) => (n, p, v) == (number, place, value),
             _ => false,
         }
@@ -72,8 +96,8 @@ impl Here {
 enum Wanted {
     /// The crate refuses, by its text or by a rebuilt module.
     Refusal { crates: (&'static str, Fault), here: Here },
-    /// Each side answers as a reader does that has its form: the crate, as far as answers are compared; we to the letter.
-    Forms { crates: Ours, here: Ours },
+    /// Each side answers as a reader does that has its layout: the crate, as far as answers are compared; we to the letter.
+    Each { crates: Ours, here: Ours },
 }
 
 /// A class of difference, and what is wanted for this input of it.
@@ -88,15 +112,46 @@ impl Listed {
     }
 }
 
-/// 2.1: the crate refuses the count for its capacity; we go on behind it.
+/// The list of an input, and where it begins.
+fn list_in(kind: u32, input: &[u8]) -> Option<(usize, List)> {
+    match kind {
+        13 if attestation_type(kind, input) == Some(QUOTE) => Some((arm_place(input).ok()?, PCR_SELECTIONS)),
+        14 => Some((0, PCR_SELECTIONS)),
+        15 => Some((4, list_of(number(input, 0, 4).ok()?)?)),
+        _ => None,
+    }
+}
+
+/// What a reader answers that takes so many commands: each is a number of 4 bytes.
+fn commands(input: &[u8], capability: u64, count: u64) -> Ours {
+    let mut fields = format!("|0 4 code {capability}|4 4 number {count}");
+    for item in 0..count as usize {
+        let place = 8 + 4 * item;
+        match number(input, place, 4) {
+            Ok(value) => fields.push_str(&format!("|{place} 4 number {value}")),
+            Err((name, value, had)) => return Ours::Refused { number: number_of(name), place, value, had: Some(had) },
+        }
+    }
+    let consumed = 8 + 4 * count as usize;
+    Ours::Read { consumed, tail: input.len() - consumed, fields, again: hex(&input[..consumed]) }
+}
+
+/// 2.1: a list that is too long for one side alone. That side refuses the count; the other goes on behind it.
 fn capacity(kind: u32, input: &[u8]) -> Option<Listed> {
-    let list = match attestation_type(kind, input) {
-        Some(QUOTE) => arm_place(input).ok()?,
-        _ if kind == 14 => 0,
-        _ => return None,
-    };
-    let count = number(input, list, 4).ok().filter(|count| (9..=16).contains(count))?;
-    Some(Listed::refusal("2.1, a list of 9 to 16 items", ("text", ("TooManyItems", count, 0)), Here::From(list + 4)))
+    let (place, list) = list_in(kind, input)?;
+    let count = number(input, place, 4).ok()?;
+    match (count > list.crates, count > list.here) {
+        (true, false) => {
+            let name = if kind == 15 { "2.1, a capability's list that is too long for the crate" } else { "2.1, a list of 9 to 16 PCR selections" };
+            Some(Listed::refusal(name, ("text", ("TooManyItems", count, 0)), Here::From(place + 4, list.numbers)))
+        }
+        (false, true) => {
+            let crates = commands(input, number(input, 0, 4).ok()?, count);
+            let here = Ours::Refused { number: number_of("TooManyItems"), place, value: count, had: None };
+            Some(Listed { name: "2.1, a list of 129 to 256 commands", wanted: Wanted::Each { crates, here } })
+        }
+        _ => None,
+    }
 }
 
 /// 2.5: we refuse the type where it stands; the crate at the first field behind it that has a fault, or in the union.
@@ -122,7 +177,7 @@ fn is_alike(one: &Ours, other: &Ours) -> bool {
 fn forms(kind: u32, input: &[u8]) -> Option<Listed> {
     let (name, here) = answer(Form::Ours, kind, input)?;
     let (_, crates) = answer(Form::Crates, kind, input)?;
-    (!is_alike(&here, &crates)).then_some(Listed { name, wanted: Wanted::Forms { crates, here } })
+    (!is_alike(&here, &crates)).then_some(Listed { name, wanted: Wanted::Each { crates, here } })
 }
 
 /// The class that an input belongs to.
@@ -137,7 +192,7 @@ impl Listed {
             Wanted::Refusal { crates: wanted, here } => {
                 here.holds(ours) && matches!(crates, Crates::Refused { who, name, value, had, .. } if (*who, (*name, *value, *had)) == *wanted)
             }
-            Wanted::Forms { crates: wanted, here } => ours == here && unlike(kind, input, wanted, crates).is_none(),
+            Wanted::Each { crates: wanted, here } => ours == here && unlike(kind, input, wanted, crates).is_none(),
         }
     }
 }

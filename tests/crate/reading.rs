@@ -54,6 +54,13 @@ fn view_of_list(bytes: &[u8]) -> TpmResult<usize> {
     if views_agree(&TpmlPcrSelection::new(), bytes, &field) { field } else { Ok(usize::MAX) }
 }
 
+/// The record's own view is not in the text, but that of its union is.
+fn view_of_capability(bytes: &[u8]) -> TpmResult<usize> {
+    let (capability, rest) = TpmCap::cast_prefix_field(bytes)?;
+    let (_, tail) = TpmuCapabilities::cast_tagged(capability, rest)?;
+    Ok(bytes.len() - tail.len())
+}
+
 fn views_note<T>(read: &TpmResult<(T, &[u8])>, bytes: &[u8], view: View) -> &'static str {
     let Some(view) = view else { return "" };
     let same = match (read, view(bytes)) {
@@ -109,6 +116,7 @@ fn answer_kind(kind: u32, bytes: &[u8]) -> String {
         12 => answer::<TpmtSensitive>(bytes, None),
         13 => answer::<TpmsAttest>(bytes, None),
         14 => answer::<TpmlPcrSelection>(bytes, Some(view_of_list)),
+        15 => answer::<TpmsCapabilityData>(bytes, Some(view_of_capability)),
         _ => panic!("kind {kind}"),
     }
 }

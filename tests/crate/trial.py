@@ -25,19 +25,21 @@ import places
 import writing
 from adapt import POINTS, adapt
 from changes import changes
-from held import TAGS, claimed_items, has_two_forms
+from held import TAGS, has_two_forms, too_long_for
 from inputs import ATTEST
-from judge import LONG, ONE_PLACE, is_adapted, kind_read
+from judge import ONE_PLACE, is_adapted, kind_read
 from sides import HERE, Claims, Ended, Reading, Writing, all_asked, answer, fail, is_built, parsed
 
 TEXT = HERE / 'text'
-# How often each sort of place is changed: 13 sorts of reading, 25 where differences are listed, 11 of writing and of the gate's answers.
+# How often each sort of place is changed: 13 sorts of reading, 28 where differences are listed, 11 of writing and of the gate's answers.
 ADAPTED_EACH, LISTED_EACH = 10, 4
 WRITING = {'what we write': 9, 'the gate\'s answers': 6}
 # A kind that is not the input's, and `read` for `refused`, are no answer to the input: there the comparison stops, and says so.
 STOPS, STOPPED = ('kind', 'word'), b'ours, kind '
 # Places in a refusal of an attestation type outside the eight, where we answer what is listed and the crate another thing.
 TYPE_SORTS = {f'type {name}': (name,) for name in ('number', 'place', 'value')}
+# Places in a refusal of a list that is too long for us and not for the crate.
+COUNT_SORTS = {f'count {name}': (name,) for name in ('number', 'place', 'value')}
 # Places in an answer to an input with Xor or Ecdaa, where both sides answer what is listed, each in its form.
 FORM_SORTS = {
     f'form {name}': (name,) for name in ('consumed', 'tail', 'number', 'place', 'value', 'had', 'field_place', 'field_value', 'again_bytes')}
@@ -57,9 +59,11 @@ def is_held_by_published(sort, asked):
     """To a list that is too long for the crate our answer is bounded only."""
     if sort in TYPE_SORTS:
         return is_other_type(*asked)
+    if sort in COUNT_SORTS:
+        return too_long_for(*asked) == 'us'
     if sort in FORM_SORTS:
         return has_two_forms(*asked)
-    return claimed_items(*asked) not in LONG and is_held_by_adapted(sort, asked)
+    return too_long_for(*asked) != 'crate' and is_held_by_adapted(sort, asked)
 
 
 def is_held_in_writing(sort, asked):
@@ -242,7 +246,7 @@ def main(folder, gate, ours):
     try_unchanged(sides, work)
     adapted, published = folder / 'adapted/reading', folder / 'published/reading'
     bad = try_our_reading(sides['reading'], work, adapted, 'same', places.READING_SORTS, ADAPTED_EACH, is_held_by_adapted)
-    listed = places.READING_SORTS | TYPE_SORTS | FORM_SORTS
+    listed = places.READING_SORTS | TYPE_SORTS | COUNT_SORTS | FORM_SORTS
     bad += try_our_reading(sides['reading'], work, published, 'listed', listed, LISTED_EACH, is_held_by_published)
     for every, what in zip((sides['writing'].every, gates(folder, Path(gate))), WRITING):
         bad += try_our_writing(every, what)

@@ -21,10 +21,13 @@ use words::{Parts, hex, parts, refusal};
 
 const UNTOUCHED: u8 = 0xa5;
 const HEAD: usize = 14;
+const NO_SELECTOR: &str = "no such record: selector";
 
 struct Case<'a> {
     kind: u8,
     selector: u16,
+    /// Of a selector with 4 bytes the upper two: they stand where other cases say where their second record begins.
+    upper: u16,
     room: usize,
     index: Option<usize>,
     first: &'a [u8],
@@ -44,6 +47,7 @@ impl<'a> Case<'a> {
         Self {
             kind: bytes[0],
             selector: number(bytes, 1) as u16,
+            upper: number(bytes, 9) as u16,
             room: number(bytes, 3),
             index: (index != 0xffff).then_some(index),
             first: from(7),
@@ -64,7 +68,7 @@ impl<'a> Case<'a> {
     }
 
     fn selector<C: TryFrom<u16>>(&self) -> Result<C, String> {
-        C::try_from(self.selector).map_err(|_| "no such record: selector".to_string())
+        C::try_from(self.selector).map_err(|_| NO_SELECTOR.to_string())
     }
 }
 
@@ -158,7 +162,14 @@ fn hmac_inside(case: &Case) -> Result<String, String> {
     told(case, &matches, &record, tail)
 }
 
-/// Kinds 28 and 29 change what an owned record of the crate cannot have otherwise; it can only be read.
+fn capability(case: &Case) -> Result<String, String> {
+    let (mut record, tail) = case.first::<TpmsCapabilityData>()?;
+    let code = u32::from(case.upper) << 16 | u32::from(case.selector);
+    record.capability = TpmCap::try_from(code).map_err(|_| NO_SELECTOR.to_string())?;
+    told(case, &[record.data.matches_tag(record.capability)], &record, tail)
+}
+
+/// Kinds 28 to 30 change what an owned record of the crate cannot have otherwise; it can only be read.
 fn read_alone<T: TpmUnmarshal>(case: &Case) -> Result<String, String> {
     case.first::<T>()?;
     Err("no such record: kind".to_string())
@@ -183,6 +194,7 @@ fn answer(case: &Case) -> Result<String, String> {
             let (record, tail) = case.first::<TpmlPcrSelection>()?;
             told(case, &[], &record, tail)
         }
+        15 => capability(case),
         21 => hmac_inside(case),
         22 => inside!(case, KeyedHash, scheme, scheme, [details]),
         23 => inside!(case, SymCipher, sym, algorithm, [key_bits, mode]),
@@ -192,6 +204,7 @@ fn answer(case: &Case) -> Result<String, String> {
         27 => inside!(case, Ecc, kdf, scheme, [details]),
         28 => read_alone::<TpmsAttest>(case),
         29 => read_alone::<TpmtSensitive>(case),
+        30 => read_alone::<TpmsCapabilityData>(case),
         _ => Err("no such record: kind".to_string()),
     }
 }

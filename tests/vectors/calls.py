@@ -14,7 +14,7 @@ GREATEST_ROOM = 4096
 GREATEST_CASE = 8192
 NO_INDEX = 0xFFFF
 TWO_RECORDS = (2, 11)  # the mode, the unique part is that of a second record
-MAGIC, AUTH = 28, 29  # what is replaced is no selector
+MAGIC, AUTH, LIST = 28, 29, 30  # what is replaced is no selector
 
 
 class Inner(NamedTuple):
@@ -34,12 +34,12 @@ INNER = {
     26: Inner(9, tables.ECC, 2, 7),
     27: Inner(9, tables.ECC, 3, 3),
 }
-CASE_KINDS = (*tables.KINDS, *INNER, MAGIC, AUTH)
+CASE_KINDS = (*tables.KINDS, *INNER, MAGIC, AUTH, LIST)
 
 
 def record_kind(kind):
     """The kind of the record that a case of that kind reads."""
-    return INNER[kind].kind if kind in INNER else {MAGIC: 13, AUTH: 12}.get(kind, kind)
+    return INNER[kind].kind if kind in INNER else {MAGIC: 13, AUTH: 12, LIST: 15}.get(kind, kind)
 
 
 def selectors_ahead(kind):
@@ -98,7 +98,8 @@ class Call(NamedTuple):
 
 def case_bytes(asked, first, second, records, source=None):
     """The bytes of a case; a source that is None is the records."""
-    words = (asked.selector, asked.room, asked.index, first, second)
+    upper, lower = divmod(asked.selector, 0x10000)
+    words = (lower, asked.room, asked.index, first, second or upper)
     head = bytes([asked.kind]) + b''.join(word.to_bytes(2, 'big') for word in words)
     behind = b'' if source is None else source
     case = head + bytes([source is not None]) + len(records).to_bytes(2, 'big') + records + behind
@@ -120,6 +121,8 @@ def replaced(asked, row):
         return held.with_part(row, 0, row[0]._replace(value=asked.selector)), None
     if asked.kind == AUTH:
         return held.with_part(row, 1, row[1]._replace(span=held.Span(0, asked.selector))), None
+    if asked.kind == LIST:
+        return held.with_part(row, 2, row[2]._replace(span=held.Span(0, asked.selector))), None
     index = held.selectors(row)[selectors_ahead(asked.kind)]
     return held.with_part(row, index, row[index]._replace(value=asked.selector)), index
 

@@ -4,7 +4,9 @@ Each maker yields the sort of a case and the case with its answer. What does not
 ahead of the record and behind it, an index where the writer is tried) changes from case to case by turns.
 """
 
+import by_hand
 import calls
+import damage
 import early
 import held
 import lent
@@ -24,6 +26,13 @@ def last_index(record):
     return max(len(held.spans(held.row_of(record))), len(held.items_of(record))) - 1
 
 
+def indices(record, past):
+    """Every index, and some past the last; of a long list of kind 15 the first two items and the last two."""
+    last = last_index(record)
+    long = record.kind == 15 and last >= damage.FEW_ITEMS
+    return [index for index in range(last + 1 + past) if not (long and 2 <= index <= last - 2)]
+
+
 def settings(record, found, turn):
     """The record alone, and with bytes ahead of it and a tail; if its kind has byte fields, also with either."""
     tail = filler(1 + turn % 4, turn)
@@ -41,7 +50,7 @@ def by_index(found, layouts):
         code = own_selector(record.kind, record)
         for number, placed in enumerate(settings(record, found, turn)):
             past = 2 if number < 2 else 0
-            for index in range(last_index(record) + 1 + past):
+            for index in indices(record, past):
                 room = calls.GREATEST_ROOM if index == number == turn % 2 else 0
                 yield 'by index', call(Asked(record.kind, code, room, index), placed)
     for kind in tables.KINDS:
@@ -63,6 +72,7 @@ def every_real_record(real):
 def all_cases(real, samples, layouts):
     """Every case, from the real records, the records of the samples, and the smallest real one of each layout."""
     found = real + samples
+    yield from by_hand.cases_by_hand(found)
     yield from replaced.replaced_cases(found)
     yield from by_index(found, layouts)
     yield from every_real_record(real)

@@ -7,7 +7,7 @@ import sweeps
 import tables
 from calls import INNER, record_kind
 
-FIELD_KINDS = (1, 10, 11, 12, 13, 14, 21)  # those whose records have byte fields
+FIELD_KINDS = (1, 10, 11, 12, 13, 14, 15, 21)  # those whose records have byte fields
 INDICES = (calls.NO_INDEX, 0, 1, 2, 3)
 AHEADS = (0, 3, 0, 1, 0, 9)
 
@@ -63,7 +63,11 @@ def unions_of(kind):
 
 
 def listed_codes(kind):
-    return tables.ATTESTATION_TYPES if kind == 13 else tables.ALGORITHMS
+    return tables.SELECTORS_OF_UNION.get(unions_of(kind)[0], tables.ALGORITHMS)
+
+
+def unlisted_codes(kind):
+    return tables.unlisted(4 if kind == 15 else 2)
 
 
 def last_arm_bytes(record):

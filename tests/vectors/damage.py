@@ -7,9 +7,12 @@ fault do not matter: by turns a refused copy is left as it is, ends there, or go
 
 import answers
 import tables
-from records import Field, byte_counts, lengths, list_count, pcr_sizes, selectors, with_number
+from records import (
+    Field, byte_counts, items, lengths, list_count, list_form, pcr_sizes, selectors, with_number,
+)
 
 SHORT_RECORD = 32
+FEW_ITEMS = 4
 TAILS = (1, 2, 3, 7, 16, 64)
 PATTERN = bytes(range(256)) * 9
 
@@ -41,6 +44,13 @@ def number_refused(sort, record, index, value, fault, turn):
     return refused_by_turns(sort, copy, (fault, field.place, value), field.end, turn + index)
 
 
+def tried(record):
+    """The fields that are changed one by one, by index: of a long list of kind 15 those of three items."""
+    found = items(record) if record.kind == 15 else []
+    skipped = range(found[2][0], found[-1][0]) if len(found) > FEW_ITEMS else ()
+    return [i for i in range(len(record.fields)) if i not in skipped]
+
+
 # ---- Tails and cuts
 
 
@@ -59,7 +69,8 @@ def cuts(record, _turn):
     if len(record.data) <= SHORT_RECORD:
         places = range(len(record.data))
     else:
-        places = sorted({p for f in record.fields if f.size for p in (f.place, f.end - 1)})
+        fields = [record.fields[i] for i in tried(record)]
+        places = sorted({p for f in fields if f.size for p in (f.place, f.end - 1)})
     for cut in places:
         yield cut_at(record, cut)
 
@@ -72,11 +83,12 @@ def one_cut(record, turn):
 
 
 def code_indices(record):
-    return [i for i, f in enumerate(record.fields) if f.what == 'code']
+    return [i for i in tried(record) if record.fields[i].what == 'code']
 
 
 def unlisted_at(record, index, turn):
-    code = tables.UNLISTED[(turn + index) % len(tables.UNLISTED)]
+    choices = tables.unlisted(record.fields[index].size)
+    code = choices[(turn + index) % len(choices)]
     return number_refused('code made unlisted', record, index, code, answers.UNKNOWN_CODE, turn)
 
 
@@ -93,10 +105,11 @@ def one_unlisted(record, turn):
 
 def armless(record, turn):
     """Each selector made a listed code that has no arm there. (Every attestation type has one.)"""
+    changed = tried(record)
     for s in selectors(record):
-        if s.union == 'attestation':
-            continue
         choices = tables.armless(s.union)
+        if not choices or s.index not in changed:
+            continue
         code = choices[(turn + s.index) % len(choices)]
         copy = with_number(record, s.index, code)
         refusal = (answers.NO_ARM, s.due, code)
@@ -178,29 +191,31 @@ def last_body(record, _turn):
 def too_many(record, turn):
     index = list_count(record)
     if index is not None:
-        for count in (tables.GREATEST_COUNT + 1, 0xFFFFFFFF):
-            yield number_refused('count above 16', record, index, count, answers.TOO_MANY_ITEMS, turn)
+        for count in (list_form(record).most + 1, 0xFFFFFFFF):
+            yield number_refused('count above its limit', record, index, count, answers.TOO_MANY_ITEMS, turn)
 
 
 def pcr_too_long(record, turn):
-    for index in pcr_sizes(record):
+    for index in sorted({*pcr_sizes(record)} & {*tried(record)}):
         for size in (tables.GREATEST_PCR_SIZE + 1, 0xFF):
             yield number_refused('PCR size above 4', record, index, size, answers.TOO_LONG, turn)
 
 
 def other_count(record, _turn):
-    """A list with a count of one less, its last item a tail then; and of one more, which is not there."""
-    if record.kind != 14:
+    """A list that ends the record: a count of one less, the last item a tail then; one more, which is not there."""
+    if record.kind not in (14, 15):
         return
-    count = record.fields[0].value
-    if count > 0:
-        copy = with_number(record, 0, count - 1)
-        end = copy.fields[-3].place
-        kept = copy._replace(data=copy.data[:end], fields=copy.fields[:-3])
+    index, form, found = list_count(record), list_form(record), items(record)
+    if found:
+        copy = with_number(record, index, len(found) - 1)
+        last = found[-1][0]
+        end = copy.fields[last].place
+        kept = copy._replace(data=copy.data[:end], fields=copy.fields[:last])
         yield whole('count of one less', kept, copy.data[end:])
-    if count < tables.GREATEST_COUNT:
-        copy = with_number(record, 0, count + 1)
-        refusal = answers.short(len(copy.data), 2, len(copy.data))
+    if len(found) < form.most:
+        copy = with_number(record, index, len(found) + 1)
+        _, size = form.item[0]
+        refusal = answers.short(len(copy.data), size, len(copy.data))
         yield refused('count of one more', record.kind, copy.data, refusal)
 
 

@@ -4,12 +4,13 @@ from itertools import count
 
 import answers
 import damage
+import held
 import tables
 from calls import CASE_KINDS, INNER, TWO_RECORDS, Asked, record_kind, refused_call
-from choice import INDICES, ahead, filler, own_selector, with_every_arm
+from choice import INDICES, ahead, by_arm, filler, own_selector, with_every_arm
 
 FIRST, SECOND = 'first record refused', 'second record refused'
-BAD_KINDS = (0, 15, 20, 30, 255)
+BAD_KINDS = (0, 16, 20, 31, 255)
 PAST_THE_END = 0xFFFF
 UNLISTED = tables.UNLISTED[0]
 FAULTS = (
@@ -36,10 +37,18 @@ def moved(refusal, place):
 # ---- The first record
 
 
+def first_of(kind, layouts):
+    """The records that are damaged: the first two, of kind 15 the smallest of each arm that has an item."""
+    alike = [r for r in layouts if r.kind == record_kind(kind)]
+    if kind != 15:
+        return alike[:2]
+    return [next(r for r in records if held.items_of(r)) for records in by_arm(kind, alike).values()]
+
+
 def first_refused(layouts):
     turns = count()
     for kind in CASE_KINDS:
-        for record in [r for r in layouts if r.kind == record_kind(kind)][:2]:
+        for record in first_of(kind, layouts):
             for data, refusal in damaged(record, next(turns)):
                 turn = next(turns)
                 front = ahead(turn)
@@ -52,7 +61,7 @@ def first_refused(layouts):
 
 def no_first(kind):
     """The place of the record is where the records end, or past it."""
-    size = 4 if record_kind(kind) in (13, 14) else 2  # of the first field
+    size = 4 if record_kind(kind) in (13, 14, 15) else 2  # of the first field
     records = filler(3, kind)
     for place in (len(records), PAST_THE_END):
         refusal = answers.short(place, size, len(records))

@@ -48,14 +48,15 @@ class Number(NamedTuple):
 
 class Code(NamedTuple):
     value: int
-    what: str  # which of the three lists it must be on
+    what: str  # which of the lists it must be on
+    size: int
 
     def fault(self, _row, _source):
         listed = self.value in tables.LISTED[self.what]
         return None if listed else (answers.UNKNOWN_CODE, 0, self.value)
 
     def written(self, _source):
-        return self.value.to_bytes(2, 'big')
+        return self.value.to_bytes(self.size, 'big')
 
 
 class Union(NamedTuple):
@@ -154,7 +155,7 @@ class Rows:
         if what == 'kind':
             self.form(detail)
         elif what == 'list':
-            self.list()
+            self.list(tables.LISTS[detail].item)
         elif what == 'buffer':
             self.take('number', 2)
             self.row.append(Buffer(self.span(self.take('bytes')), detail))
@@ -166,21 +167,28 @@ class Rows:
             allowed = YES_OR_NO if (what, detail) == tables.YES_NO else None
             self.row.append(Number(detail, self.take('number', detail).value, allowed))
         else:
-            self.row.append(Code(self.take('code', 2).value, what))
+            self.row.append(Code(self.take('code', detail).value, what, detail))
 
     def span(self, field):
         return Span(self.place + field.place, field.size)
 
-    def list(self):
+    def list(self, item):
         """The count and the items: one part."""
         count = self.take('number', 4)
         end, items = count.end, []
         for _ in range(count.value):
-            bank, _size, bits = self.take('code', 2), self.take('number', 1), self.take('bytes')
-            items.append(self.record.data[bank.place:bits.end])
-            end = bits.end
+            begin = end
+            for part in item:
+                end = self.item_part(part)
+            items.append(self.record.data[begin:end])
         self.items = tuple(items)
         self.row.append(List(Span(self.place + count.place, end - count.place)))
+
+    def item_part(self, part):
+        """The place where the part of an item ends."""
+        for what, size in tables.fields_of(part, self.left[0].value if self.left else None):
+            last = self.take(what, size)
+        return last.end
 
 
 def row_of(record, place=0):

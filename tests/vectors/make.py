@@ -14,6 +14,7 @@ sys.dont_write_bytecode = True
 import answers
 import cases
 import damage
+import full
 import handmade
 import records
 import replaced
@@ -24,7 +25,7 @@ HERE = Path(__file__).resolve().parent
 CRATES = HERE.parent.parent / 'crates'
 README = HERE / 'README.md'
 DEPOSIT_COUNTS, CALL_COUNTS, COUNTS_END = '```counts\n', '```calls\n', '```\n'
-BAD_KINDS = (0, 15, 255)
+BAD_KINDS = (0, 16, 255)
 FIRST_EXAMPLE = bytes.fromhex('02 0006 0080 0043')  # of docs/FORMAT.md, section 11
 
 
@@ -58,12 +59,9 @@ def sample_deposits(samples):
 
 
 def refused_deposits(refused):
-    """The real records that the format refuses; one of them is of a kind that it does not have."""
+    """The real records that the format refuses."""
     for entry in refused:
-        if entry.kind in tables.KINDS:
-            yield damage.refused('real record, refused', entry.kind, entry.data, entry.refusal)
-        else:
-            yield bad_kind('real record, refused', entry.kind, entry.data)
+        yield damage.refused('real record, refused', entry.kind, entry.data, entry.refusal)
 
 
 def edges(first_of_kind):
@@ -88,7 +86,8 @@ def padded(record, filler):
     tail = filler * room
     yield damage.whole('4,096 bytes, read', record, tail)
     index = damage.code_indices(record)[0]
-    code = tables.UNLISTED[filler[0] % len(tables.UNLISTED)]
+    choices = tables.unlisted(record.fields[index].size)
+    code = choices[filler[0] % len(choices)]
     faulty = records.with_number(record, index, code).data + tail
     refusal = (answers.UNKNOWN_CODE, record.fields[index].place, code)
     yield damage.refused('4,096 bytes, refused', record.kind, faulty, refusal)
@@ -122,12 +121,14 @@ def listed_samples(samples):
 
 def fill(real, samples):
     """The shelf of all deposits, and how many records it was filled from."""
-    listed = listed_samples(samples)
+    listed, lists = listed_samples(samples), full.lists()
     require_every_arm(real + listed)
-    layouts = one_of_each_layout(real + listed)
+    layouts = one_of_each_layout(real + listed + lists)
     shelf = Shelf()
     shelf.put_all(damage.whole('real record', record) for record in real)
     shelf.put_all(sample_deposits(samples))
+    shelf.put_all(damage.whole('list of two items, full list', record) for record in lists)
+    shelf.put_all(full.too_full())
     shelf.put_all(refused_deposits(records.load_refused(HERE / 'real-refused.jsonl')))
     shelf.put_all(edges({kind: next(r for r in real if r.kind == kind) for kind in tables.KINDS}))
     for makers, chosen in ((damage.FOR_EACH_LAYOUT, layouts), (damage.FOR_EACH_RECORD, real)):
@@ -140,7 +141,7 @@ def fill(real, samples):
 
 def fill_calls(real, samples):
     """The shelf of all cases for `calls`."""
-    made = list(cases.all_cases(real, listed_samples(samples), one_of_each_layout(real)))
+    made = list(cases.all_cases(real, listed_samples(samples) + full.lists(), one_of_each_layout(real)))
     replaced.require_complete([call for _, call in made])
     shelf = Shelf()
     shelf.put_all((sort, call.case, call.answer) for sort, call in made)

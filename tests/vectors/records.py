@@ -91,12 +91,17 @@ def load_refused(path):
     return found
 
 
-def load_samples(path):
-    """The blocks of samples.txt: for each its deposit and the text that answers it."""
+def blocks(path):
+    """The blocks of a file that was written by hand: of each its first line, and the text that answers it."""
     with open(path, encoding='utf-8') as file:
         text = ''.join(line for line in file if not line.startswith('#'))
-    blocks = [block.strip('\n').split('\n') for block in text.split('\n\n') if block.strip('\n')]
-    return [(deposit_of(first), ''.join(line + '\n' for line in rest)) for first, *rest in blocks]
+    found = [block.strip('\n').split('\n') for block in text.split('\n\n') if block.strip('\n')]
+    return [(first, ''.join(line + '\n' for line in rest)) for first, *rest in found]
+
+
+def load_samples(path):
+    """The blocks of samples.txt: for each its deposit and the text that answers it."""
+    return [(deposit_of(first), answer) for first, answer in blocks(path)]
 
 
 def deposit_of(line):
@@ -149,9 +154,28 @@ def byte_counts(record):
 
 def list_count(record):
     """The index of the list's count, or None."""
-    if record.kind == 14:
-        return 0
+    if record.kind in (14, 15):
+        return record.kind - 14
     return 11 if record.kind == 13 and record.first_code == tables.QUOTE else None
+
+
+def list_form(record):
+    """How many items the record's list may have, and what they are."""
+    return tables.list_held(record.first_code) if record.kind == 15 else tables.LISTS['banks']
+
+
+def items(record):
+    """The items of the record's list: of each the index of its first field, and of the one behind its last."""
+    count = list_count(record)
+    if count is None:
+        return []
+    found, at = [], count + 1
+    for _ in range(record.fields[count].value):
+        begin = at
+        for part in list_form(record).item:
+            at += len(tables.fields_of(part, record.fields[at].value))
+        found.append((begin, at))
+    return found
 
 
 def selectors(record):
@@ -160,7 +184,17 @@ def selectors(record):
         return []
     index, ahead = {11: (0, 5), 12: (0, 5), 13: (1, 11)}.get(record.kind, (0, 1))
     outer = Selector(index, tables.UNION_OF_KIND[record.kind], ahead, record.fields[ahead - 1].end, True)
-    return [outer] + inner_selectors(record, ahead)
+    return [outer] + inner_selectors(record, ahead) + policy_selectors(record)
+
+
+def policy_selectors(record):
+    """Those inside of a list: a policy's algorithm, behind its handle."""
+    if record.kind != 15 or record.first_code != tables.AUTH_POLICIES:
+        return []
+    return [
+        Selector(begin + 1, 'digest', begin + 2, record.fields[begin + 1].end, end == len(record.fields))
+        for begin, end in items(record)
+    ]
 
 
 def inner_selectors(record, at):

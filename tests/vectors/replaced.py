@@ -8,10 +8,11 @@ import held
 import tables
 from calls import AUTH, INNER, MAGIC, TWO_RECORDS, Asked, Placed, call
 from choice import (
-    FIELD_KINDS, INDICES, ahead, another_of_its_arm, by_arm, filler, listed_codes, unions_of, with_every_arm,
+    FIELD_KINDS, INDICES, ahead, another_of_its_arm, by_arm, filler, listed_codes, unions_of, unlisted_codes,
+    with_every_arm,
 )
 
-SELECTOR_KINDS = (*range(1, 14), *INNER)
+SELECTOR_KINDS = (*range(1, 14), 15, *INNER)
 WRITERS_REFUSALS = {*range(1, 10), answers.TRAILING}
 BEHINDS = (0, 0, 2, 0, 5)
 MAGICS = (0, 1, 0x4347, 0xFF54, 0xFFFF)
@@ -65,7 +66,7 @@ def every_arm_under_every_code(found):
     tries, turns = Tries(), count()
     for kind in SELECTOR_KINDS:
         for held_records in with_every_arm(kind, found).values():
-            for code in (*listed_codes(kind), *tables.UNLISTED[next(turns) % 3::3]):
+            for code in (*listed_codes(kind), *unlisted_codes(kind)[next(turns) % 3::3]):
                 yield from tries.tries('selector replaced', kind, code, held_records[0])
     for kind in TWO_RECORDS:
         smallest = [held_records[0] for held_records in with_every_arm(kind, found).values()]

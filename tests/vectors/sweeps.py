@@ -10,9 +10,10 @@ import answers
 import damage
 import tables
 from records import Field, Record
-from tables import CODE, LIST, NULL, buffer, number
+from tables import CODE, NULL, buffer, number
 
 ALGORITHMS_TRIED = [*range(0x50), 0x0104, 0x0110, 0x1000, 0x8014, 0x8018, 0xFFFF]
+CAPABILITIES_TRIED = [*range(0x20), *tables.UNLISTED_CAPABILITIES, *(code << 24 for code in tables.CAPABILITIES[1:])]
 TYPES_TRIED = [*range(0x8000, 0x8030), 0x0010, 0x0014, 0x0018, 0x1480, 0x7F18, 0x8118, 0xFFFF]
 REFUSED = 'code tried, refused'
 
@@ -26,10 +27,16 @@ class Place(NamedTuple):
     behind: tuple = ()  # the parts that follow
     listed: list = tables.ALGORITHMS
     tried: list = ALGORITHMS_TRIED
+    size: int = 2  # of the code
 
 
-def code(number_given):
-    return ('code', 2, number_given)
+def code(number_given, size=2):
+    return ('code', size, number_given)
+
+
+def capability_list(capability, count):
+    """The code of a capability, and the count of its list."""
+    return code(capability, 4), ('number', 4, count)
 
 
 def filled(part):
@@ -39,8 +46,10 @@ def filled(part):
     what, size = part
     if what == 'buffer':
         return [('number', 2, 1), ('bytes', 1, 'a5')]
+    if what == 'list':
+        return [('number', 4, 0)]
     fillings = {'code': NULL, 'number': 1, 'bytes': damage.PATTERN[:size].hex()}
-    return [('number', 4, 0) if part == LIST else (what, size, fillings[what])]
+    return [(what, size, fillings[what])]
 
 
 def built(kind, parts):
@@ -63,6 +72,7 @@ XOR, ECDAA = code(tables.XOR), code(tables.ECDAA)
 COMMAND_AUDIT = (*ATTEST_FRONT, code(tables.COMMAND_AUDIT), *ATTEST_MIDDLE, number(8))
 QUOTE_ITEM = (*ATTEST_FRONT, code(tables.QUOTE), *ATTEST_MIDDLE, ('number', 4, 1))
 NO_BITS = (('number', 1, 0), ('bytes', 0, ''))
+SECOND_POLICY = (*capability_list(tables.AUTH_POLICIES, 2), number(4), CODE, number(4))
 
 SELECTORS = [
     *(Place(kind, (), (), (tables.UNION_OF_KIND[kind],)) for kind in range(1, 11)),
@@ -80,6 +90,8 @@ SELECTORS = [
     Place(11, (), PUBLIC_MIDDLE, ('parameters', 'unique')),
     Place(12, (), SENSITIVE_MIDDLE, ('sensitive',)),
     Place(13, ATTEST_FRONT, ATTEST_MIDDLE, ('attestation',), (), tables.ATTESTATION_TYPES, TYPES_TRIED),
+    Place(15, (), (), ('capabilities',), (), tables.CAPABILITIES, CAPABILITIES_TRIED, 4),
+    Place(15, SECOND_POLICY, (), ('digest',)),
 ]
 
 PLAIN_CODES = [
@@ -102,6 +114,9 @@ PLAIN_CODES = [
     Place(13, COMMAND_AUDIT, behind=(buffer(tables.DIGEST), buffer(tables.DIGEST))),
     Place(13, QUOTE_ITEM, behind=(*NO_BITS, buffer(tables.DIGEST))),
     Place(14, (('number', 4, 1),), behind=NO_BITS),
+    Place(15, (*capability_list(tables.ALGS, 2), CODE, number(4)), behind=(number(4),)),
+    Place(15, (*capability_list(tables.PCRS, 2), CODE, *NO_BITS), behind=NO_BITS),
+    Place(15, (*capability_list(tables.ECC_CURVES, 2), code(tables.CURVES[0])), listed=tables.CURVES),
 ]
 
 # Where Ecdaa's count is tried.
@@ -124,13 +139,14 @@ def arms_chosen(place, number_tried):
 def record_with(place, number_tried):
     """The record with that code in the place, and with the arms that it chooses, if it has any."""
     arms = [part for arm in arms_chosen(place, number_tried) if arm for part in arm]
-    return built(place.kind, (*place.ahead, code(number_tried), *place.between, *arms, *place.behind))
+    tried_code = code(number_tried, place.size)
+    return built(place.kind, (*place.ahead, tried_code, *place.between, *arms, *place.behind))
 
 
 def tried(place, number_tried):
     """One code in one place: refused; or read, and refused when it is cut right where the arm is due."""
     chosen = arms_chosen(place, number_tried)
-    due = len(built(place.kind, (*place.ahead, code(number_tried), *place.between)).data)
+    due = len(built(place.kind, (*place.ahead, code(number_tried, place.size), *place.between)).data)
     record = record_with(place, number_tried)
     if number_tried not in place.listed:
         at = len(built(place.kind, place.ahead).data)

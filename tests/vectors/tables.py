@@ -4,6 +4,8 @@ They say which codes a copy may be damaged with, and what a selector or a length
 No bytes are parsed with them: where a record's fields stand is known from its decoded fields alone.
 """
 
+from typing import NamedTuple
+
 
 def codes(ranges):
     """The codes of a list such as '01, 03-08', in rising order."""
@@ -17,9 +19,12 @@ def codes(ranges):
 ALGORITHMS = codes('01, 03-08, 0A-0D, 10, 12-1D, 20-23, 25-2E, 3F-44')
 CURVES = codes('0-5, 10, 11, 20, 30-32, 40, 41')
 ATTESTATION_TYPES = codes('8014, 8015, 8016, 8017, 8018, 8019, 801A, 801C')
+CAPABILITIES = codes('0-A')
 
-# On none of the three lists: neighbours of listed codes, listed ones with a bit added, the ends of the range.
+# On none of the three lists of codes of 2 bytes: neighbours of listed codes, listed ones with a bit added, the
+# ends of the range. And of 4 bytes, no capabilities: the first of these, and listed ones in each other byte.
 UNLISTED = codes('09, 0E, 0F, 1E, 1F, 24, 2F, 45, FF, 0104, 0110, 7FFF, 8000, 8013, 801B, 801D, 8021, FFFF')
+UNLISTED_CAPABILITIES = codes('0B, 0C, 10, 18, 0106, 0800, FFFF, 00010008, 00090000, 04000000, 80000005, FFFFFFFF')
 
 RSA, SHA1, HMAC, AES, MGF1, KEYEDHASH = 0x01, 0x04, 0x05, 0x06, 0x07, 0x08
 XOR, SHA256, SHA384, SHA512, NULL = 0x0A, 0x0B, 0x0C, 0x0D, 0x10
@@ -30,21 +35,23 @@ SYMCIPHER, CAMELLIA, SHA3_256, SHA3_384, SHA3_512 = 0x25, 0x26, 0x27, 0x28, 0x29
 SHAKE256_192, SHAKE256_256, SHAKE256_512 = 0x2C, 0x2D, 0x2E
 NV, COMMAND_AUDIT, SESSION_AUDIT, CERTIFY = 0x8014, 0x8015, 0x8016, 0x8017
 QUOTE, TIME, CREATION, NV_DIGEST = 0x8018, 0x8019, 0x801A, 0x801C
+ALGS, HANDLES, COMMANDS, PP_COMMANDS, AUDIT_COMMANDS, PCRS, TPM_PROPERTIES = range(7)
+ECC_CURVES, AUTH_POLICIES, ACT = 8, 9, 10
 
 MAGIC = 0xFF544347
-GREATEST_COUNT = 16
 GREATEST_PCR_SIZE = 4
 GREATEST_INPUT = 4096
 
 DIGEST, AUTH, RSA_PUBLIC, RSA_PRIVATE, SENSITIVE_DATA = 64, 64, 512, 256, 256
 ECC_PARAMETER, SYMMETRIC_KEY, NAME, DATA, NV_CONTENTS = 66, 32, 66, 66, 2048
 
-# The parts of an arm, in wire order. A buffer is written with its limit; a list has its own rules.
+# The parts of an arm, in wire order. A buffer is written with its limit, a list with its name.
 CODE = ('code', 2)
 CURVE = ('curve', 2)
 ATTESTATION_TYPE = ('type', 2)
+CAPABILITY = ('capability', 4)
 YES_NO = ('number', 1)
-LIST = ('list', 0)
+PCR_BITS = ('bits', GREATEST_PCR_SIZE)  # behind their size
 NOTHING = ()
 
 
@@ -60,9 +67,35 @@ def buffer(limit):
     return ('buffer', limit)
 
 
+def list_of(name):
+    return ('list', name)
+
+
+def inside(kind):
+    """A record of that kind as a part of an arm, or of an item."""
+    return ('kind', kind)
+
+
 def each(arm, *selectors):
     return dict.fromkeys(selectors, arm)
 
+
+class ListForm(NamedTuple):
+    most: int  # how many items the list may have
+    item: tuple  # the parts of an item
+
+
+LISTS = {
+    'algorithms': ListForm(128, (CODE, number(4))),
+    'handles': ListForm(128, (number(4),)),
+    'command attributes': ListForm(128, (number(4),)),
+    'commands': ListForm(128, (number(4),)),
+    'banks': ListForm(16, (CODE, PCR_BITS)),
+    'properties': ListForm(128, (number(4), number(4))),
+    'curves': ListForm(128, (CURVE,)),
+    'policies': ListForm(16, (number(4), inside(1))),
+    'timers': ListForm(16, (number(4), number(4), number(4))),
+}
 
 CLOCK_INFO = (number(8), number(4), number(4), YES_NO)
 
@@ -129,12 +162,24 @@ ARMS = {
     'attestation': {
         CERTIFY: (buffer(NAME), buffer(NAME)),
         CREATION: (buffer(NAME), buffer(DIGEST)),
-        QUOTE: (LIST, buffer(DIGEST)),
+        QUOTE: (list_of('banks'), buffer(DIGEST)),
         COMMAND_AUDIT: (number(8), CODE, buffer(DIGEST), buffer(DIGEST)),
         SESSION_AUDIT: (YES_NO, buffer(DIGEST)),
         TIME: (number(8), *CLOCK_INFO, number(8)),
         NV: (buffer(NAME), number(2), buffer(NV_CONTENTS)),
         NV_DIGEST: (buffer(NAME), buffer(DIGEST)),
+    },
+    'capabilities': {
+        ALGS: (list_of('algorithms'),),
+        HANDLES: (list_of('handles'),),
+        COMMANDS: (list_of('command attributes'),),
+        PP_COMMANDS: (list_of('commands'),),
+        AUDIT_COMMANDS: (list_of('commands'),),
+        PCRS: (list_of('banks'),),
+        TPM_PROPERTIES: (list_of('properties'),),
+        ECC_CURVES: (list_of('curves'),),
+        AUTH_POLICIES: (list_of('policies'),),
+        ACT: (list_of('timers'),),
     },
 }
 
@@ -142,8 +187,12 @@ ARMS = {
 UNION_OF_KIND = {
     1: 'digest', 2: 'cipher', 3: 'kdf', 4: 'keyed hash', 5: 'signing', 6: 'asymmetric', 7: 'asymmetric',
     8: 'asymmetric', 9: 'parameters', 10: 'signature', 11: 'parameters', 12: 'sensitive', 13: 'attestation',
+    15: 'capabilities',
 }
-KINDS = range(1, 15)
+KINDS = range(1, 16)
+
+# The codes that a union's selector may be; where nothing stands here, the algorithms.
+SELECTORS_OF_UNION = {'attestation': ATTESTATION_TYPES, 'capabilities': CAPABILITIES}
 
 # The unions inside of an arm of the parameters, in wire order; with Ecc a curve stands ahead of the last.
 UNIONS_OF_PARAMETERS = {
@@ -156,8 +205,32 @@ LIMITS_AHEAD = {11: [DIGEST], 12: [AUTH, DIGEST], 13: [NAME, DATA]}
 
 
 def armless(union):
-    """The listed algorithms that have no arm in the union."""
-    return [code for code in ALGORITHMS if code not in ARMS[union]]
+    """The listed codes that have no arm in the union."""
+    return [code for code in SELECTORS_OF_UNION.get(union, ALGORITHMS) if code not in ARMS[union]]
+
+
+def unlisted(size):
+    """The codes of that size that are on no list."""
+    return UNLISTED_CAPABILITIES if size == 4 else UNLISTED
+
+
+def list_held(capability):
+    """The list that is the arm of a capability: how many items it may have, and what they are."""
+    (_, name), = ARMS['capabilities'][capability]
+    return LISTS[name]
+
+
+def fields_of(part, value):
+    """The fields of a part of an item: word and size, None for a size that the field ahead says.
+
+    The value is that of the part's first field: a digest goes by its algorithm.
+    """
+    what, detail = part
+    if what == 'kind':
+        return [CODE, *ARMS[UNION_OF_KIND[detail]].get(value, NOTHING)]
+    if what == 'bits':
+        return [number(1), ('bytes', None)]
+    return [part if what == 'number' else ('code', detail)]
 
 
 def limits(kind, selector):
@@ -171,7 +244,7 @@ def limits(kind, selector):
 # ---- The record as a writer sees it
 
 # The list that a code is on.
-LISTED = {'code': ALGORITHMS, 'curve': CURVES, 'type': ATTESTATION_TYPES}
+LISTED = {'code': ALGORITHMS, 'curve': CURVES, 'type': ATTESTATION_TYPES, 'capability': CAPABILITIES}
 
 # The selectors that share an arm (section 6). Every other selector has an arm of its own, even where its
 # fields are those of another. A digest's arm is told by its length.
@@ -181,11 +254,6 @@ SHARED_ARMS = {
     'signing': [(RSASSA, RSAPSS, ECDSA, SM2, ECSCHNORR)],
     'asymmetric': [(RSASSA, RSAPSS, ECDSA, SM2, ECSCHNORR, OAEP, ECDH, ECMQV), (RSAES, NULL)],
 }
-
-
-def inside(kind):
-    """A record of that kind as a part of an arm."""
-    return ('kind', kind)
 
 
 # The arms with all that is in them, and the cipher's two unions as two.
@@ -215,7 +283,8 @@ FORMS = {
     11: (CODE, CODE, number(4), buffer(DIGEST), arm_of('parameters'), arm_of('unique')),
     12: (CODE, buffer(AUTH), buffer(DIGEST), arm_of('sensitive')),
     13: (('magic', 4), ATTESTATION_TYPE, buffer(NAME), buffer(DATA), *CLOCK_INFO, number(8), arm_of('attestation')),
-    14: (LIST,),
+    14: (list_of('banks'),),
+    15: (CAPABILITY, arm_of('capabilities')),
 }
 
 

@@ -1,4 +1,4 @@
--- The items that the calls of kinds 13 and 14 hand out are those of the legal list that was read: the list that a record keeps is the one
+-- The items that the calls of a kind hand out are those of the legal list that was read. Of kinds 13 and 14: the list that a record keeps is the one
 -- that its layout has there, since what an attestation holds is what its type chooses. Assumes nothing.
 use Prim.Native.Nat.{ℕ, zero, suc, _≤_, _<_}
 use native.Mathlib.Omega.{arith}
@@ -30,8 +30,9 @@ use Rattle.wire.proofs.Whole.{whole-is-read}
 use Rattle.wire.proofs.ListsKept.{read-records-list-is-legal}
 use Rattle.wire.proofs.ItemsSpelled as spelled
 use Rattle.codes.specs.Codes.{attestQuote}
+use Rattle.format.specs.declared.list.ListOf.{ListOf}
 use Rattle.format.specs.declared.list.ListOf.the-variants.{PcrSelection}
-use Rattle.format.specs.Kinds.{itemLayout, mostItems, tpmsPcrSelection, tpmlPcrSelection, tpmsClockInfo, tpmsQuoteInfo, tpmuAttestTable, tpmuAttestArm, tpmuAttestBody, tpmuAttest, tpmsAttest}
+use Rattle.format.specs.Kinds.{itemLayout, mostItems, tpmlPcrSelection, tpmsClockInfo, tpmsQuoteInfo, tpmuAttestTable, tpmuAttestArm, tpmuAttestBody, tpmuAttest, tpmsAttest}
 use Rattle.attest.specs.declared.list.TpmlPcrSelection.{TpmlPcrSelection}
 use Rattle.attest.specs.declared.tpmu.TpmuAttest.{TpmuAttest}
 use Rattle.attest.specs.declared.attestation.TpmsAttest.{TpmsAttest}
@@ -61,7 +62,7 @@ one-list-at-most (TpmuAttest.Nv i) = refl
 one-list-at-most (TpmuAttest.NvDigest i) = refl
 
 -- the arm that a legal union holds is the one that its selector chooses
-held-is-chosen : (c : Choice) (body : ℕ → Layout) (v : ℕ) (src : List ℕ) (ps : List Part) {ts : List Token} {bs : List ℕ} → Spells (union c body v) ts bs → ts ≡ shown src ps → c ≡ The (unions.held ps)
+pub held-is-chosen : (c : Choice) (body : ℕ → Layout) (v : ℕ) (src : List ℕ) (ps : List Part) {ts : List Token} {bs : List ℕ} → Spells (union c body v) ts bs → ts ≡ shown src ps → c ≡ The (unions.held ps)
 held-is-chosen Nothing body v src ps d same = absurd (no-arm-no-record d)
 held-is-chosen (The u) body v src [] (holds d) same = absurd (clash (cc))
 held-is-chosen (The u) body v src (num n ∷ ps) (holds d) same = absurd (clash (cc))
@@ -87,7 +88,7 @@ lists-of-the-attested v (TpmuAttest.Nv i) src d same = no-list
 lists-of-the-attested v (TpmuAttest.NvDigest i) src d same = no-list
 
 -- behind the first number of a legal record stands what the layout has there for that number
-behind-number : {w : ℕ} {r : Rule} {k : ℕ → Layout} {n : ℕ} {ts us : List Token} {bs : List ℕ} → Spells (number w r k) ts bs → ts ≡ value n ∷ us → (cs : List ℕ) × Spells (k n) us cs
+pub behind-number : {w : ℕ} {r : Rule} {k : ℕ → Layout} {n : ℕ} {ts us : List Token} {bs : List ℕ} → Spells (number w r k) ts bs → ts ≡ value n ∷ us → (cs : List ℕ) × Spells (k n) us cs
 behind-number {k = k} {n} {us = us} (says {ts = ts′} {cs = cs} n′ fits a e d) same =
     let said : n′ ≡ n = cc in
     let rest : ts′ ≡ us = cc in
@@ -134,11 +135,11 @@ lists-of-a-read-attestation x src at b there =
 -- ---- an attestation that was read holds the arm of its type
 
 -- each row's arm has its selector's code for a number
-abbrev Own : List Row → Type 0
+abbrev pub Own : List Row → Type 0
 Own [] = Unit {0}
 Own (r ∷ rs) = (r .selector ≡ r .chooses) × Own rs
 
-own-arm-is-its-selector : (rs : List Row) → Own rs → (v t : ℕ) → armOf rs v ≡ The t → v ≡ t
+pub own-arm-is-its-selector : (rs : List Row) → Own rs → (v t : ℕ) → armOf rs v ≡ The t → v ≡ t
 own-arm-is-its-selector [] o v t e = absurd (clash (cc))
 own-arm-is-its-selector (r ∷ rs) o v t e = go (eqb v (r .selector)) refl e (λ later. own-arm-is-its-selector rs (o .1) v t later)
   where
@@ -204,18 +205,18 @@ joined-alike f g (suc n) h = rw (h zero (omega arith), joined-alike (λ i. f (su
 
 -- The lists ls of a record of src are legal, as they are where the record was read (`lists-that-were-read-are-legal`). `part` is what `item`
 -- hands out for an index, and `size` what `item_size` answers
-module _ {src : List ℕ} {ls : List Part} (x : LegalLists src (mostItems PcrSelection) (itemLayout PcrSelection) ls) where
+module _ (which : ListOf) {src : List ℕ} {ls : List Part} (x : LegalLists src (mostItems which) (itemLayout which) ls) where
   module _ (i : ℕ) {part : List ℕ} {size : Measure}
-      (handed : part ≡ partOf (itemOf (mostItems PcrSelection) (itemLayout PcrSelection) ls i src))
-      (measured : measureAnswer size ≡ sizeOf (itemOf (mostItems PcrSelection) (itemLayout PcrSelection) ls i src)) where
+      (handed : part ≡ partOf (itemOf (mostItems which) (itemLayout which) ls i src))
+      (measured : measureAnswer size ≡ sizeOf (itemOf (mostItems which) (itemLayout which) ls i src)) where
     -- below the count it is an item's bytes, spelled as its layout says, which the item's own reader reads to their end; and their length
     pub item-handed-out-is-legal : i < itemCount x
-        → (ts : List Token) × (d : Spells tpmsPcrSelection ts part) × (size ≡ Measure.Size (length part)) × (read tpmsPcrSelection part 0 ≡ parsed (placed d 0) (length part))
+        → (ts : List Token) × (d : Spells (itemLayout which) ts part) × (size ≡ Measure.Size (length part)) × (read (itemLayout which) part 0 ≡ parsed (placed d 0) (length part))
     item-handed-out-is-legal h =
         let (zs, ts, d, there, whole) = item-is-legal x i h in
         let same : zs ≡ part = sym (handed ∙ ap partOf there) in
         let answered : measureAnswer size ≡ found (length part) = measured ∙ ap sizeOf there ∙ ap (λ ys. found (length ys)) same in
-        let d′ : Spells tpmsPcrSelection ts part = rw same at d in
+        let d′ : Spells (itemLayout which) ts part = rw same at d in
         (ts, d′, measure-answer-once size (Measure.Size (length part)) answered, spelled.spelled-is-read-to-its-end d′)
 
     -- from the count on it is nothing, refused with the index; so it is for every index of a record without a list
@@ -226,7 +227,7 @@ module _ {src : List ℕ} {ls : List Part} (x : LegalLists src (mostItems PcrSel
 
   -- what is handed out for the indices below the count, one behind the other, is the list after its count
   pub items-handed-out-are-the-list : (parts : ℕ → List ℕ)
-      → ((i : ℕ) → i < itemCount x → parts i ≡ partOf (itemOf (mostItems PcrSelection) (itemLayout PcrSelection) ls i src))
+      → ((i : ℕ) → i < itemCount x → parts i ≡ partOf (itemOf (mostItems which) (itemLayout which) ls i src))
       → joined parts (itemCount x) ≡ listItems x
   items-handed-out-are-the-list parts handed =
-      joined-alike parts (λ i. partOf (itemOf (mostItems PcrSelection) (itemLayout PcrSelection) ls i src)) (itemCount x) handed ∙ items-joined x
+      joined-alike parts (λ i. partOf (itemOf (mostItems which) (itemLayout which) ls i src)) (itemCount x) handed ∙ items-joined x

@@ -1,4 +1,4 @@
--- The lists that a record of kind 13 or 14 keeps, by the grammar: there is none, or one. Assumes nothing.
+-- The lists that a record keeps, by the grammar: there is none, or one; and which records of kinds 13 and 14 were read. Assumes nothing.
 use Prim.Native.Nat.{ℕ}
 use mathlib.Core.Path.{_≡_}
 use mathlib.Core.List.{List, [], _∷_}

@@ -74,7 +74,7 @@ fn input_room() -> [u8; 65538]
 }
 
 fn listing_room() -> [u8; LISTING_ROOM]
-    ensures { λ r. ⌜ 8192 ≡ length r ⌝ }
+    ensures { λ r. ⌜ 16384 ≡ length r ⌝ }
 {
     [0; LISTING_ROOM]
 }

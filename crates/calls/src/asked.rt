@@ -6,6 +6,7 @@ use crate::said::say_parts;
 use crate::said::say_written;
 use attest::attestation::TpmsAttest;
 use attest::list::TpmlPcrSelection;
+use capabilities::tpms::TpmsCapabilityData;
 use ciphers::tpmt::TpmtHa;
 use ciphers::tpmt::TpmtSymDef;
 use keys::tpmt::TpmtPublic;
@@ -259,6 +260,27 @@ pub fn tpms_attest_asked(case: Case, y: TpmsAttest, tail: &[u8], src: &[u8], out
 pub fn tpml_pcr_selection_asked(
     case: Case,
     y: TpmlPcrSelection,
+    tail: &[u8],
+    src: &[u8],
+    out: &mut [u8],
+) {
+    let measured = y.measure(src);
+    let room = room_for(measured, out.len());
+    let written = y.marshal(src, &mut out[..room]);
+    say_written(case, measured, written, out);
+    say_parts(
+        case,
+        tail,
+        y.field_size(src, case.index),
+        y.field(src, case.index),
+        y.item_size(src, case.index),
+        y.item(src, case.index),
+    );
+}
+
+pub fn tpms_capability_data_asked(
+    case: Case,
+    y: TpmsCapabilityData,
     tail: &[u8],
     src: &[u8],
     out: &mut [u8],

@@ -4,6 +4,8 @@ pub struct Case {
     pub kind: u8,
     // The code that is put in place of the record's own.
     pub selector: u16,
+    // Its upper two bytes, where it has four.
+    pub upper: u16,
     // Of the byte field and of the item.
     pub index: usize,
     // Where the two records begin.

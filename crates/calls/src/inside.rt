@@ -1,6 +1,7 @@
-// A selector further in that is replaced, or a part that no reader would make: kinds 21 to 29 of a case. Another arm than the one that a
+// A selector further in that is replaced, or a part that no reader would make: kinds 21 to 30 of a case. Another arm than the one that a
 // case is about is a kind that there is not.
 use crate::asked::tpms_attest_asked;
+use crate::asked::tpms_capability_data_asked;
 use crate::asked::tpmt_public_parms_asked;
 use crate::asked::tpmt_sensitive_asked;
 use crate::asked::tpmt_signature_asked;
@@ -14,6 +15,18 @@ use crate::under::tpmt_rsa_scheme_under;
 use crate::under::tpmt_sym_def_under;
 use attest::attestation::TpmsAttest;
 use attest::attestation::TpmsAttestRead;
+use attest::list::TpmlPcrSelection;
+use capabilities::list::TpmlActData;
+use capabilities::list::TpmlAlgProperty;
+use capabilities::list::TpmlCc;
+use capabilities::list::TpmlCca;
+use capabilities::list::TpmlEccCurve;
+use capabilities::list::TpmlHandle;
+use capabilities::list::TpmlTaggedPolicy;
+use capabilities::list::TpmlTaggedTpmProperty;
+use capabilities::tpms::TpmsCapabilityData;
+use capabilities::tpms::TpmsCapabilityDataRead;
+use capabilities::tpmu::TpmuCapabilities;
 use ciphers::tpmt::TpmtHa;
 use ciphers::tpmt::TpmtHaRead;
 use codes::TpmAlgId;
@@ -244,5 +257,45 @@ pub fn other_auth(case: Case, s: &[u8], src: &[u8], out: &mut [u8]) {
             out,
         ),
         TpmtSensitiveRead::No(f) => say_refusal(case.kind, f),
+    }
+}
+
+// The same arm with another list.
+fn with_items(held: TpmuCapabilities, items: Span) -> TpmuCapabilities {
+    match held {
+        TpmuCapabilities::Algs(_) => TpmuCapabilities::Algs(TpmlAlgProperty { items }),
+        TpmuCapabilities::Handles(_) => TpmuCapabilities::Handles(TpmlHandle { items }),
+        TpmuCapabilities::Commands(_) => TpmuCapabilities::Commands(TpmlCca { items }),
+        TpmuCapabilities::PpCommands(_) => TpmuCapabilities::PpCommands(TpmlCc { items }),
+        TpmuCapabilities::AuditCommands(_) => TpmuCapabilities::AuditCommands(TpmlCc { items }),
+        TpmuCapabilities::Pcrs(_) => TpmuCapabilities::Pcrs(TpmlPcrSelection { items }),
+        TpmuCapabilities::TpmProperties(_) =>
+            TpmuCapabilities::TpmProperties(TpmlTaggedTpmProperty { items }),
+        TpmuCapabilities::EccCurves(_) => TpmuCapabilities::EccCurves(TpmlEccCurve { items }),
+        TpmuCapabilities::AuthPolicies(_) => TpmuCapabilities::AuthPolicies(TpmlTaggedPolicy {
+            items,
+        }),
+        TpmuCapabilities::Act(_) => TpmuCapabilities::Act(TpmlActData { items }),
+    }
+}
+
+fn with_list(case: Case, x: TpmsCapabilityData) -> TpmsCapabilityData {
+    let capability = x.capability;
+    let held = x.data;
+    let data = with_items(held, Span::new(0, case.selector as usize));
+    TpmsCapabilityData { capability, data }
+}
+
+// 30: the list of a capability is a span from the source's start, as long as the selector says.
+pub fn other_list(case: Case, s: &[u8], src: &[u8], out: &mut [u8]) {
+    match TpmsCapabilityData::unmarshal(s, case.first) {
+        TpmsCapabilityDataRead::Found(x, end) => tpms_capability_data_asked(
+            case,
+            with_list(case, x),
+            tail_of(s, end),
+            src,
+            out,
+        ),
+        TpmsCapabilityDataRead::No(f) => say_refusal(case.kind, f),
     }
 }

@@ -1,6 +1,7 @@
 // The kinds: each record is read, put under the selector of its case, and asked.
 use crate::asked::tpml_pcr_selection_asked;
 use crate::asked::tpms_attest_asked;
+use crate::asked::tpms_capability_data_asked;
 use crate::asked::tpmt_ecc_scheme_asked;
 use crate::asked::tpmt_ha_asked;
 use crate::asked::tpmt_kdf_scheme_asked;
@@ -16,6 +17,7 @@ use crate::asked::tpmt_sym_def_asked;
 use crate::case::Case;
 use crate::said::say_refusal;
 use crate::under::tpms_attest_under;
+use crate::under::tpms_capability_data_under;
 use crate::under::tpmt_ecc_scheme_under;
 use crate::under::tpmt_ha_under;
 use crate::under::tpmt_kdf_scheme_under;
@@ -32,6 +34,8 @@ use attest::attestation::TpmsAttest;
 use attest::attestation::TpmsAttestRead;
 use attest::list::TpmlPcrSelection;
 use attest::list::TpmlPcrSelectionRead;
+use capabilities::tpms::TpmsCapabilityData;
+use capabilities::tpms::TpmsCapabilityDataRead;
 use ciphers::tpmt::TpmtHa;
 use ciphers::tpmt::TpmtHaRead;
 use ciphers::tpmt::TpmtSymDef;
@@ -309,5 +313,18 @@ pub fn tpml_pcr_selection(case: Case, s: &[u8], src: &[u8], out: &mut [u8]) {
             out,
         ),
         TpmlPcrSelectionRead::No(f) => say_refusal(case.kind, f),
+    }
+}
+
+pub fn tpms_capability_data(case: Case, s: &[u8], src: &[u8], out: &mut [u8]) {
+    match TpmsCapabilityData::unmarshal(s, case.first) {
+        TpmsCapabilityDataRead::Found(x, end) => tpms_capability_data_asked(
+            case,
+            tpms_capability_data_under(case, x),
+            tail_of(s, end),
+            src,
+            out,
+        ),
+        TpmsCapabilityDataRead::No(f) => say_refusal(case.kind, f),
     }
 }

@@ -10,12 +10,14 @@ mod under;
 
 use crate::case::Case;
 use crate::inside::other_auth;
+use crate::inside::other_list;
 use crate::inside::other_magic;
 use crate::inside::parms;
 use crate::inside::say_no_such_case;
 use crate::inside::signature;
 use crate::kinds::tpml_pcr_selection;
 use crate::kinds::tpms_attest;
+use crate::kinds::tpms_capability_data;
 use crate::kinds::tpmt_ecc_scheme;
 use crate::kinds::tpmt_ha;
 use crate::kinds::tpmt_kdf_scheme;
@@ -63,6 +65,7 @@ fn answer_area(case: Case, s: &[u8], src: &[u8], out: &mut [u8]) {
         12 => tpmt_sensitive(case, s, src, out),
         13 => tpms_attest(case, s, src, out),
         14 => tpml_pcr_selection(case, s, src, out),
+        15 => tpms_capability_data(case, s, src, out),
         _ => say_no_such_case(kind),
     }
 }
@@ -74,6 +77,7 @@ fn answer_inside(case: Case, s: &[u8], src: &[u8], out: &mut [u8]) {
         22..=27 => parms(case, s, src, out),
         28 => other_magic(case, s, src, out),
         29 => other_auth(case, s, src, out),
+        30 => other_list(case, s, src, out),
         _ => say_no_such_case(kind),
     }
 }
@@ -99,6 +103,7 @@ fn case_of(bytes: &[u8], kind: u8) -> Case {
     Case {
         kind: kind,
         selector: two(bytes, 1),
+        upper: two(bytes, 9),
         index: two(bytes, 5) as usize,
         first: two(bytes, 7) as usize,
         second: two(bytes, 9) as usize,

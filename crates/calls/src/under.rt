@@ -3,9 +3,11 @@
 use crate::case::Case;
 use crate::said::say_match;
 use attest::attestation::TpmsAttest;
+use capabilities::tpms::TpmsCapabilityData;
 use ciphers::tpmt::TpmtHa;
 use ciphers::tpmt::TpmtSymDef;
 use codes::TpmAlgId;
+use codes::TpmCap;
 use codes::TpmSt;
 use keys::tpmt::TpmtPublic;
 use keys::tpmu::TpmuPublicId;
@@ -145,5 +147,14 @@ pub fn tpms_attest_under(case: Case, x: TpmsAttest) -> TpmsAttest {
     say_match(held.matches_tag(tag));
     let mut y = x;
     y.attest_type = tag;
+    y
+}
+
+pub fn tpms_capability_data_under(case: Case, x: TpmsCapabilityData) -> TpmsCapabilityData {
+    let tag = TpmCap((case.upper as u32) << 16 | case.selector as u32);
+    let held = x.data;
+    say_match(held.matches_tag(tag));
+    let mut y = x;
+    y.capability = tag;
     y
 }

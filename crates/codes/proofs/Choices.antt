@@ -17,7 +17,7 @@ abbrev pub Each : (ℕ → Type 0) → List Row → Type 0
 Each P [] = Unit {0}
 Each P (r ∷ rs) = P (r .chooses) × Each P rs
 
-nothing-chosen : {t : ℕ} → Nothing ≡ The t → ⊥
+pub nothing-chosen : {t : ℕ} → Nothing ≡ The t → ⊥
 nothing-chosen e = let z : _≡_ {A = ℕ} 0 1 = cc in omega arith
 
 -- so it holds of the arm that is chosen

@@ -13,11 +13,13 @@ use Rattle.codes.specs.declared.uint.Uint32Read.{Uint32Read}
 use Rattle.codes.specs.declared.TpmAlgId.{TpmAlgId}
 use Rattle.codes.specs.declared.TpmEccCurve.{TpmEccCurve}
 use Rattle.codes.specs.declared.TpmSt.{TpmSt}
+use Rattle.codes.specs.declared.TpmCap.{TpmCap}
 use Rattle.codes.specs.declared.TpmAlgIdRead.{TpmAlgIdRead}
 use Rattle.codes.specs.declared.TpmEccCurveRead.{TpmEccCurveRead}
 use Rattle.codes.specs.declared.TpmStRead.{TpmStRead}
+use Rattle.codes.specs.declared.TpmCapRead.{TpmCapRead}
 use Rattle.codes.specs.declared.DigestLen.{DigestLen}
-use Rattle.codes.specs.Answers.{uint8Answer, uint16Answer, uint32Answer, tpmAlgIdAnswer, tpmEccCurveAnswer, tpmStAnswer, digestChoice}
+use Rattle.codes.specs.Answers.{uint8Answer, uint16Answer, uint32Answer, tpmAlgIdAnswer, tpmEccCurveAnswer, tpmStAnswer, tpmCapAnswer, digestChoice}
 use Rattle.codes.specs.Codes.{null}
 use Rattle.codes.specs.Digests.{digestSize}
 use Rattle.codes.proofs.Digests.{digest-sized, digest-not-empty}
@@ -30,6 +32,9 @@ tpm-ecc-curve-once = fields (λ c. c .0) (λ n. record { 0 = n }) (λ c. refl) n
 
 pub tpm-st-once : Once (λ (t : TpmSt). num (t .0) ∷ [])
 tpm-st-once = fields (λ t. t .0) (λ n. record { 0 = n }) (λ t. refl) number-once
+
+pub tpm-cap-once : Once (λ (c : TpmCap). num (c .0) ∷ [])
+tpm-cap-once = fields (λ c. c .0) (λ n. record { 0 = n }) (λ c. refl) number-once
 
 pub uint8-answer-once : Injective uint8Answer
 uint8-answer-once = answers number-once Uint8Read.Found Uint8Read.No uint8Answer (λ back. elim [ Uint8Read.Found n e ↦ back n e | Uint8Read.No f ↦ refl ])
@@ -48,6 +53,9 @@ tpm-ecc-curve-answer-once = answers tpm-ecc-curve-once TpmEccCurveRead.Found Tpm
 
 pub tpm-st-answer-once : Injective tpmStAnswer
 tpm-st-answer-once = answers tpm-st-once TpmStRead.Found TpmStRead.No tpmStAnswer (λ back. elim [ TpmStRead.Found t e ↦ back t e | TpmStRead.No f ↦ refl ])
+
+pub tpm-cap-answer-once : Injective tpmCapAnswer
+tpm-cap-answer-once = answers tpm-cap-once TpmCapRead.Found TpmCapRead.No tpmCapAnswer (λ back. elim [ TpmCapRead.Found c e ↦ back c e | TpmCapRead.No f ↦ refl ])
 
 pub digest-choice-once : Injective digestChoice
 digest-choice-once = undone digestChoice

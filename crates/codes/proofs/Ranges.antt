@@ -6,8 +6,8 @@ use mathlib.Core.Bool.{Bool, true, false, _||_, _&&_, false≢true}
 use mathlib.Core.List.{List, [], _∷_, _++_}
 use lib.ListN.{length}
 use lib.Dec.{eqb, leb}
-use borrow.Author.Tests.{leb-true, leb-false, eqb-true, eqb-false}
-use Rattle.codes.specs.Codes.{Range, row, numbers, member, within, curveRanges, attestationRanges, algorithms, curves, attestations, isCurve, isAttestation}
+use borrow.Author.Tests.{le-leb, leb-true, leb-false, eqb-true, eqb-false}
+use Rattle.codes.specs.Codes.{Range, row, numbers, member, within, curveRanges, attestationRanges, capRanges, algorithms, curves, attestations, caps, isCurve, isAttestation, isCap}
 
 -- ---- how many
 
@@ -22,6 +22,10 @@ curves-14 = refl
 pub attestations-8 : length attestations ≡ 8
 unfolding attestations
 attestations-8 = refl
+
+pub caps-11 : length caps ≡ 11
+unfolding caps
+caps-11 = refl
 
 -- ---- membership by ranges
 
@@ -86,7 +90,7 @@ or-member (r ∷ rs) n b u =
     ∙ ap (λ c. b || (c || member (numbers rs) n)) (sym (from-within (r .lo) (r .hi) n (u .0)))
     ∙ ap (λ c. b || c) (sym (member-append (row (r .hi + 1 - r .lo) (r .lo)) (numbers rs) n))
 
--- so the code's tests of a curve and of an attestation type are their lists
+-- so the code's tests of a curve, of an attestation type and of a capability are their lists
 pub curve-tests : (n : ℕ) {a b c d e : Bool}
     → a ≡ within 0x00 0x05 n → b ≡ within 0x10 0x11 n → c ≡ within 0x20 0x20 n → d ≡ within 0x30 0x32 n → e ≡ within 0x40 0x41 n
     → ((((a || b) || c) || d) || e) ≡ isCurve n
@@ -97,3 +101,7 @@ curve-tests n pa pb pc pd pe =
 pub attestation-tests : (n : ℕ) {a b : Bool} → a ≡ within 0x8014 0x801A n → b ≡ within 0x801C 0x801C n → (a || b) ≡ isAttestation n
 unfolding isAttestation attestations
 attestation-tests n pa pb = rw (pa, pb) (or-member attestationRanges n false (omega arith, (omega arith, tt)))
+
+pub cap-test : (n : ℕ) → leb n 0x0A ≡ isCap n
+unfolding isCap caps
+cap-test n = sym (ap (λ b. b && leb n 0x0A) (le-leb 0 n (omega arith))) ∙ or-member capRanges n false (omega arith, tt)

@@ -8,6 +8,7 @@ use Rattle.codes.specs.declared.uint.Uint32Read.{Uint32Read}
 use Rattle.codes.specs.declared.TpmAlgIdRead.{TpmAlgIdRead}
 use Rattle.codes.specs.declared.TpmEccCurveRead.{TpmEccCurveRead}
 use Rattle.codes.specs.declared.TpmStRead.{TpmStRead}
+use Rattle.codes.specs.declared.TpmCapRead.{TpmCapRead}
 use Rattle.codes.specs.declared.DigestLen.{DigestLen}
 use Rattle.codes.specs.Codes.{null}
 use Rattle.codes.specs.Digests.{digestOf}
@@ -37,6 +38,10 @@ tpmEccCurveAnswer (TpmEccCurveRead.No f) = refused f
 abbrev pub tpmStAnswer : TpmStRead → Ans Parsed
 tpmStAnswer (TpmStRead.Found t e) = parsed (num (t .0) ∷ []) e
 tpmStAnswer (TpmStRead.No f) = refused f
+
+abbrev pub tpmCapAnswer : TpmCapRead → Ans Parsed
+tpmCapAnswer (TpmCapRead.Found c e) = parsed (num (c .0) ∷ []) e
+tpmCapAnswer (TpmCapRead.No f) = refused f
 
 -- a digest's length as the arm of its union; the empty digest is Null's arm
 abbrev pub digestChoice : DigestLen → Choice

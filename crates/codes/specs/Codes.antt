@@ -54,6 +54,13 @@ attestationRanges = range 0x8014 0x801A ∷ range 0x801C 0x801C ∷ []
 unfoldable pub attestations : List ℕ
 attestations = numbers attestationRanges
 
+-- the 11 capabilities
+abbrev pub capRanges : List Range
+capRanges = range 0x00 0x0A ∷ []
+
+unfoldable pub caps : List ℕ
+caps = numbers capRanges
+
 -- what a field of each takes
 unfoldable pub isAlgorithm : ℕ → Bool
 isAlgorithm n = member algorithms n
@@ -64,6 +71,9 @@ isCurve n = member curves n
 unfoldable pub isAttestation : ℕ → Bool
 isAttestation n = member attestations n
 
+unfoldable pub isCap : ℕ → Bool
+isCap n = member caps n
+
 abbrev pub alg : Rule
 alg = listed (λ n. isAlgorithm n)
 
@@ -72,6 +82,9 @@ curve = listed (λ n. isCurve n)
 
 abbrev pub attestation : Rule
 attestation = listed (λ n. isAttestation n)
+
+abbrev pub cap : Rule
+cap = listed (λ n. isCap n)
 
 -- no, 0, or yes, 1
 abbrev pub isYesNo : ℕ → Bool
@@ -226,3 +239,36 @@ attestCreation = 0x801A
 
 abbrev pub attestNvDigest : ℕ
 attestNvDigest = 0x801C
+
+abbrev pub capAlgs : ℕ
+capAlgs = 0x00
+
+abbrev pub capHandles : ℕ
+capHandles = 0x01
+
+abbrev pub capCommands : ℕ
+capCommands = 0x02
+
+abbrev pub capPpCommands : ℕ
+capPpCommands = 0x03
+
+abbrev pub capAuditCommands : ℕ
+capAuditCommands = 0x04
+
+abbrev pub capPcrs : ℕ
+capPcrs = 0x05
+
+abbrev pub capTpmProperties : ℕ
+capTpmProperties = 0x06
+
+abbrev pub capPcrProperties : ℕ
+capPcrProperties = 0x07
+
+abbrev pub capEccCurves : ℕ
+capEccCurves = 0x08
+
+abbrev pub capAuthPolicies : ℕ
+capAuthPolicies = 0x09
+
+abbrev pub capAct : ℕ
+capAct = 0x0A

@@ -1,23 +1,28 @@
-// Algorithms, curves and attestation types: codes of two bytes that are three types, so that none is taken for another.
+// Algorithms, curves and attestation types, codes of two bytes, and capabilities, codes of four: each is a type, so that none is taken for another.
 pub mod registry;
 pub mod uint;
 
 use crate::uint::Uint16Read;
+use crate::uint::Uint32Read;
 use crate::uint::uint16;
+use crate::uint::uint32;
 use faults::Refusal;
 use wire::widen::wide;
+use wire::widen::wider;
 ghost use mathlib.Core.Path.{_≡_};
 ghost use Rattle.wire.specs.Layout.{one};
 ghost use Rattle.wire.specs.Reading.{read};
-ghost use Rattle.codes.specs.Codes.{attestations, namedAlgorithms, isAlgorithm, isCurve, isAttestation, within, alg, curve, attestation};
+ghost use Rattle.codes.specs.Codes.{attestations, caps, namedAlgorithms, isAlgorithm, isCurve, isAttestation, isCap, within, alg, curve, attestation, cap};
 ghost use Rattle.codes.specs.Digests.{tpmuHaArm};
-ghost use Rattle.codes.specs.Answers.{tpmAlgIdAnswer, tpmEccCurveAnswer, tpmStAnswer, digestChoice};
+ghost use Rattle.codes.specs.Answers.{tpmAlgIdAnswer, tpmEccCurveAnswer, tpmStAnswer, tpmCapAnswer, digestChoice};
 
 pub struct TpmAlgId(pub u16);
 
 pub struct TpmEccCurve(pub u16);
 
 pub struct TpmSt(pub u16);
+
+pub struct TpmCap(pub u32);
 
 pub enum TpmAlgIdRead {
     Found(TpmAlgId, usize),
@@ -31,6 +36,11 @@ pub enum TpmEccCurveRead {
 
 pub enum TpmStRead {
     Found(TpmSt, usize),
+    No(Refusal),
+}
+
+pub enum TpmCapRead {
+    Found(TpmCap, usize),
     No(Refusal),
 }
 
@@ -300,6 +310,73 @@ impl TpmSt {
                 }
             }
             Uint16Read::No(f) => TpmStRead::No(f),
+        }
+    }
+}
+
+impl TpmCap {
+    pub const Algs: TpmCap = TpmCap(registry::CAP_ALGS);
+
+    pub const Handles: TpmCap = TpmCap(registry::CAP_HANDLES);
+
+    pub const Commands: TpmCap = TpmCap(registry::CAP_COMMANDS);
+
+    pub const PpCommands: TpmCap = TpmCap(registry::CAP_PP_COMMANDS);
+
+    pub const AuditCommands: TpmCap = TpmCap(registry::CAP_AUDIT_COMMANDS);
+
+    pub const Pcrs: TpmCap = TpmCap(registry::CAP_PCRS);
+
+    pub const TpmProperties: TpmCap = TpmCap(registry::CAP_TPM_PROPERTIES);
+
+    pub const PcrProperties: TpmCap = TpmCap(registry::CAP_PCR_PROPERTIES);
+
+    pub const EccCurves: TpmCap = TpmCap(registry::CAP_ECC_CURVES);
+
+    pub const AuthPolicies: TpmCap = TpmCap(registry::CAP_AUTH_POLICIES);
+
+    pub const Act: TpmCap = TpmCap(registry::CAP_ACT);
+
+    // Their codes, rising.
+    pub fn named() -> [u32; 11]
+        ensures { λ r. ⌜ r ≡ caps ⌝ }
+    {
+        [
+            TpmCap::Algs.0,
+            TpmCap::Handles.0,
+            TpmCap::Commands.0,
+            TpmCap::PpCommands.0,
+            TpmCap::AuditCommands.0,
+            TpmCap::Pcrs.0,
+            TpmCap::TpmProperties.0,
+            TpmCap::PcrProperties.0,
+            TpmCap::EccCurves.0,
+            TpmCap::AuthPolicies.0,
+            TpmCap::Act.0,
+        ]
+    }
+
+    // Whether the code is one of the 11 capabilities.
+    pub fn is_listed(self) -> bool
+        ensures { λ r. ⌜ r ≡ isCap (self .0) ⌝ }
+    {
+        self.0 <= 0x0A
+    }
+
+    // A capability's code, read.
+    pub fn unmarshal(s: &[u8], at: usize) -> TpmCapRead
+        ensures { λ r. ⌜ tpmCapAnswer r ≡ read (one 4 cap) (now (s .entry)) at ⌝ }
+    {
+        match uint32(s, at) {
+            Uint32Read::Found(n, e) => {
+                let c = TpmCap(n);
+                if c.is_listed() {
+                    TpmCapRead::Found(c, e)
+                } else {
+                    TpmCapRead::No(Refusal::unknown_code(at, wider(n)))
+                }
+            }
+            Uint32Read::No(f) => TpmCapRead::No(f),
         }
     }
 }

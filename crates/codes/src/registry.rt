@@ -84,3 +84,25 @@ pub const ATTEST_TIME: u16 = 0x8019;
 pub const ATTEST_CREATION: u16 = 0x801A;
 
 pub const ATTEST_NV_DIGEST: u16 = 0x801C;
+
+pub const CAP_ALGS: u32 = 0x00000000;
+
+pub const CAP_HANDLES: u32 = 0x00000001;
+
+pub const CAP_COMMANDS: u32 = 0x00000002;
+
+pub const CAP_PP_COMMANDS: u32 = 0x00000003;
+
+pub const CAP_AUDIT_COMMANDS: u32 = 0x00000004;
+
+pub const CAP_PCRS: u32 = 0x00000005;
+
+pub const CAP_TPM_PROPERTIES: u32 = 0x00000006;
+
+pub const CAP_PCR_PROPERTIES: u32 = 0x00000007;
+
+pub const CAP_ECC_CURVES: u32 = 0x00000008;
+
+pub const CAP_AUTH_POLICIES: u32 = 0x00000009;
+
+pub const CAP_ACT: u32 = 0x0000000A;

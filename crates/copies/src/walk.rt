@@ -3,6 +3,8 @@ use attest::attestation::TpmsAttest;
 use attest::attestation::TpmsAttestRead;
 use attest::list::TpmlPcrSelection;
 use attest::list::TpmlPcrSelectionRead;
+use capabilities::tpms::TpmsCapabilityData;
+use capabilities::tpms::TpmsCapabilityDataRead;
 use ciphers::tpmt::TpmtHa;
 use ciphers::tpmt::TpmtHaRead;
 use ciphers::tpmt::TpmtSymDef;
@@ -35,7 +37,7 @@ use steps::walk::refusing;
 use wire::measure::Measure;
 use wire::widen::wide_byte;
 ghost use Rattle.wire.specs.Reading.{read};
-ghost use Rattle.format.specs.Kinds.{tpmtHa, tpmtSymDef, tpmtKdfScheme, tpmtKeyedhashScheme, tpmtSigScheme, tpmtAsymScheme, tpmtPublicParms, tpmtSignature, tpmtPublic, tpmtSensitive, tpmsAttest, tpmlPcrSelection, layoutOf, readKind};
+ghost use Rattle.format.specs.Kinds.{tpmtHa, tpmtSymDef, tpmtKdfScheme, tpmtKeyedhashScheme, tpmtSigScheme, tpmtAsymScheme, tpmtPublicParms, tpmtSignature, tpmtPublic, tpmtSensitive, tpmsAttest, tpmlPcrSelection, tpmsCapabilityData, layoutOf, readKind};
 ghost use Rattle.steps.specs.Walks.{here};
 ghost use Rattle.copies.specs.Walked.{WalkOf};
 ghost use Rattle.copies.specs.Copied.{MeasuresKind, Copies};
@@ -166,6 +168,15 @@ fn tpml_pcr_selection_walk(s: &[u8], w: Walk, out: &mut [u8]) -> Walk
     }
 }
 
+fn tpms_capability_data_walk(s: &[u8], w: Walk, out: &mut [u8]) -> Walk
+    ensures { λ r. ⌜ WalkOf tpmsCapabilityData (now (s .entry)) (read tpmsCapabilityData (now (s .entry)) 0) (here w (now (out .entry))) (here r (now (out .exit))) ⌝ }
+{
+    match TpmsCapabilityData::unmarshal(s, 0) {
+        TpmsCapabilityDataRead::Found(x, _) => x.walk(w, s, out),
+        TpmsCapabilityDataRead::No(f) => refusing(f),
+    }
+}
+
 // The record of that kind that s starts with, walked over; where there is none, the walk is refused. A number that is no kind is refused
 // first.
 pub fn walk(kind: u8, s: &[u8], w: Walk, out: &mut [u8]) -> Walk
@@ -186,6 +197,7 @@ pub fn walk(kind: u8, s: &[u8], w: Walk, out: &mut [u8]) -> Walk
         12 => tpmt_sensitive_walk(s, w, out),
         13 => tpms_attest_walk(s, w, out),
         14 => tpml_pcr_selection_walk(s, w, out),
+        15 => tpms_capability_data_walk(s, w, out),
         _ => refusing(Refusal::bad_kind(wide_byte(kind))),
     }
 }

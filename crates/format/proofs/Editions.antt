@@ -9,14 +9,16 @@ use Rattle.wire.specs.Layout.{Layout, stop, noArm, number, free}
 use Rattle.wire.specs.Editions.{LaterRule, rule-same, rule-longer, Later, stop-same, arm-new, number-later, buffer-same, counted-same}
 use Rattle.wire.proofs.Order.{later-refl, later-then}
 use Rattle.wire.proofs.Rows.{more-rows, row-later, rows-behind, union-later}
-use Rattle.codes.specs.Codes.{alg, curve, attestation}
-use Rattle.format.specs.Kinds.{tpmuHaTable, tpmuHaArm, tpmuHa, tpmuAsymSchemeArm, tpmuAsymScheme, tpmuSigSchemeArm, tpmuSigScheme, tpmuKeyedhashSchemeArm, tpmuKeyedhashScheme, tpmuKdfSchemeArm, tpmuKdfScheme, tpmuSymKeyBitsArm, tpmuSymKeyBits, tpmuSymModeArm, tpmuSymMode, tpmuPublicParmsArm, tpmuPublicParms, tpmuPublicIdTable, tpmuPublicIdArm, tpmuPublicId, tpmuSensitiveCompositeTable, tpmuSensitiveCompositeArm, tpmuSensitiveComposite, tpmuSignatureArm, tpmuSignature, tpmuAttestArm, tpmuAttest, tpmsSchemeHash, tpmsSchemeEcdaa, tpmsSchemeXor, tpmtHa, tpmtSymDef, tpmtKdfScheme, tpmtKeyedhashScheme, tpmtSigScheme, tpmtAsymScheme, tpmsRsaParms, tpmsEccParms, tpmsSignatureRsa, tpmsSignatureEcc, tpmtPublicParms, tpmtSignature, tpmtPublic, tpmtSensitive, tpmsPcrSelection, tpmlPcrSelection, tpmsClockInfo, tpmsQuoteInfo, tpmsCommandAuditInfo, tpmsAttest, kinds, layoutOf}
+use Rattle.codes.specs.Codes.{alg, curve, attestation, cap}
+use Rattle.format.specs.declared.list.ListOf.{ListOf}
+use Rattle.format.specs.declared.list.ListOf.the-variants.{AlgProperty, Handle, Cca, Cc, PcrSelection, TaggedTpmProperty, EccCurve, TaggedPolicy, ActData}
+use Rattle.format.specs.Kinds.{tpmuHaTable, tpmuHaArm, tpmuHa, tpmuAsymSchemeArm, tpmuAsymScheme, tpmuSigSchemeArm, tpmuSigScheme, tpmuKeyedhashSchemeArm, tpmuKeyedhashScheme, tpmuKdfSchemeArm, tpmuKdfScheme, tpmuSymKeyBitsArm, tpmuSymKeyBits, tpmuSymModeArm, tpmuSymMode, tpmuPublicParmsArm, tpmuPublicParms, tpmuPublicIdTable, tpmuPublicIdArm, tpmuPublicId, tpmuSensitiveCompositeTable, tpmuSensitiveCompositeArm, tpmuSensitiveComposite, tpmuSignatureArm, tpmuSignature, tpmuAttestArm, tpmuAttest, tpmuCapabilitiesArm, tpmuCapabilities, tpmsSchemeHash, tpmsSchemeEcdaa, tpmsSchemeXor, tpmtHa, tpmtSymDef, tpmtKdfScheme, tpmtKeyedhashScheme, tpmtSigScheme, tpmtAsymScheme, tpmsRsaParms, tpmsEccParms, tpmsSignatureRsa, tpmsSignatureEcc, tpmtPublicParms, tpmtSignature, tpmtPublic, tpmtSensitive, tpmsPcrSelection, tpmsAlgProperty, tpmsTaggedPolicy, itemLayout, tpml, tpmlPcrSelection, tpmsClockInfo, tpmsQuoteInfo, tpmsCommandAuditInfo, tpmsAttest, tpmsCapabilityData, kinds, layoutOf}
 use Rattle.format.specs.Editions.{Edition, ours, Extends}
-use Rattle.format.specs.EditionKinds.{algIn, curveIn, attestationIn, tpmuHaIn, tpmuAsymSchemeIn, tpmuSigSchemeIn, tpmuKeyedhashSchemeIn, tpmuKdfSchemeIn, tpmuSymKeyBitsIn, tpmuSymModeIn, tpmuPublicParmsIn, tpmuPublicIdIn, tpmuSensitiveCompositeIn, tpmuSignatureIn, tpmuAttestIn, tpmsSchemeHashIn, tpmsSchemeEcdaaIn, tpmsSchemeXorIn, tpmtHaIn, tpmtSymDefIn, tpmtKdfSchemeIn, tpmtKeyedhashSchemeIn, tpmtSigSchemeIn, tpmtAsymSchemeIn, tpmsRsaParmsIn, tpmsEccParmsIn, tpmsSignatureRsaIn, tpmsSignatureEccIn, tpmtPublicParmsIn, tpmtSignatureIn, tpmtPublicIn, tpmtSensitiveIn, tpmsPcrSelectionIn, tpmlPcrSelectionIn, tpmsQuoteInfoIn, tpmsCommandAuditInfoIn, tpmsAttestIn, kindsIn, layoutIn}
+use Rattle.format.specs.EditionKinds.{algIn, curveIn, attestationIn, capIn, tpmuHaIn, tpmuAsymSchemeIn, tpmuSigSchemeIn, tpmuKeyedhashSchemeIn, tpmuKdfSchemeIn, tpmuSymKeyBitsIn, tpmuSymModeIn, tpmuPublicParmsIn, tpmuPublicIdIn, tpmuSensitiveCompositeIn, tpmuSignatureIn, tpmuAttestIn, tpmuCapabilitiesIn, tpmsSchemeHashIn, tpmsSchemeEcdaaIn, tpmsSchemeXorIn, tpmtHaIn, tpmtSymDefIn, tpmtKdfSchemeIn, tpmtKeyedhashSchemeIn, tpmtSigSchemeIn, tpmtAsymSchemeIn, tpmsRsaParmsIn, tpmsEccParmsIn, tpmsSignatureRsaIn, tpmsSignatureEccIn, tpmtPublicParmsIn, tpmtSignatureIn, tpmtPublicIn, tpmtSensitiveIn, tpmsPcrSelectionIn, tpmsAlgPropertyIn, tpmsTaggedPolicyIn, itemLayoutIn, tpmlIn, tpmlPcrSelectionIn, tpmsQuoteInfoIn, tpmsCommandAuditInfoIn, tpmsAttestIn, tpmsCapabilityDataIn, kindsIn, layoutIn}
 
 -- our own edition makes our kinds
 pub ours-makes-the-kinds : kindsIn ours ≡ kinds
-unfolding kindsIn kinds tpmuHaIn tpmuAsymSchemeIn tpmuSigSchemeIn tpmuKeyedhashSchemeIn tpmuKdfSchemeIn tpmuSymKeyBitsIn tpmuSymModeIn tpmuPublicParmsIn tpmuPublicIdIn tpmuSensitiveCompositeIn tpmuSignatureIn tpmuAttestIn tpmsSchemeHashIn tpmsSchemeEcdaaIn tpmsSchemeXorIn tpmtHaIn tpmtSymDefIn tpmtKdfSchemeIn tpmtKeyedhashSchemeIn tpmtSigSchemeIn tpmtAsymSchemeIn tpmsRsaParmsIn tpmsEccParmsIn tpmsSignatureRsaIn tpmsSignatureEccIn tpmtPublicParmsIn tpmtSignatureIn tpmtPublicIn tpmtSensitiveIn tpmsPcrSelectionIn tpmlPcrSelectionIn tpmsQuoteInfoIn tpmsCommandAuditInfoIn tpmsAttestIn tpmuHaArm tpmuHa tpmuAsymSchemeArm tpmuAsymScheme tpmuSigSchemeArm tpmuSigScheme tpmuKeyedhashSchemeArm tpmuKeyedhashScheme tpmuKdfSchemeArm tpmuKdfScheme tpmuSymKeyBitsArm tpmuSymKeyBits tpmuSymModeArm tpmuSymMode tpmuPublicParmsArm tpmuPublicParms tpmuPublicIdArm tpmuPublicId tpmuSensitiveCompositeArm tpmuSensitiveComposite tpmuSignatureArm tpmuSignature tpmuAttestArm tpmuAttest tpmsSchemeHash tpmsSchemeEcdaa tpmsSchemeXor tpmtHa tpmtSymDef tpmtKdfScheme tpmtKeyedhashScheme tpmtSigScheme tpmtAsymScheme tpmsRsaParms tpmsEccParms tpmsSignatureRsa tpmsSignatureEcc tpmtPublicParms tpmtSignature tpmtPublic tpmtSensitive tpmsPcrSelection tpmlPcrSelection tpmsQuoteInfo tpmsCommandAuditInfo tpmsAttest
+unfolding kindsIn kinds tpmuHaIn tpmuAsymSchemeIn tpmuSigSchemeIn tpmuKeyedhashSchemeIn tpmuKdfSchemeIn tpmuSymKeyBitsIn tpmuSymModeIn tpmuPublicParmsIn tpmuPublicIdIn tpmuSensitiveCompositeIn tpmuSignatureIn tpmuAttestIn tpmuCapabilitiesIn tpmsSchemeHashIn tpmsSchemeEcdaaIn tpmsSchemeXorIn tpmtHaIn tpmtSymDefIn tpmtKdfSchemeIn tpmtKeyedhashSchemeIn tpmtSigSchemeIn tpmtAsymSchemeIn tpmsRsaParmsIn tpmsEccParmsIn tpmsSignatureRsaIn tpmsSignatureEccIn tpmtPublicParmsIn tpmtSignatureIn tpmtPublicIn tpmtSensitiveIn tpmsPcrSelectionIn tpmsAlgPropertyIn tpmsTaggedPolicyIn tpmlPcrSelectionIn tpmsQuoteInfoIn tpmsCommandAuditInfoIn tpmsAttestIn tpmsCapabilityDataIn tpmuHaArm tpmuHa tpmuAsymSchemeArm tpmuAsymScheme tpmuSigSchemeArm tpmuSigScheme tpmuKeyedhashSchemeArm tpmuKeyedhashScheme tpmuKdfSchemeArm tpmuKdfScheme tpmuSymKeyBitsArm tpmuSymKeyBits tpmuSymModeArm tpmuSymMode tpmuPublicParmsArm tpmuPublicParms tpmuPublicIdArm tpmuPublicId tpmuSensitiveCompositeArm tpmuSensitiveComposite tpmuSignatureArm tpmuSignature tpmuAttestArm tpmuAttest tpmuCapabilitiesArm tpmuCapabilities tpmsSchemeHash tpmsSchemeEcdaa tpmsSchemeXor tpmtHa tpmtSymDef tpmtKdfScheme tpmtKeyedhashScheme tpmtSigScheme tpmtAsymScheme tpmsRsaParms tpmsEccParms tpmsSignatureRsa tpmsSignatureEcc tpmtPublicParms tpmtSignature tpmtPublic tpmtSensitive tpmsPcrSelection tpmsAlgProperty tpmsTaggedPolicy tpmlPcrSelection tpmsQuoteInfo tpmsCommandAuditInfo tpmsAttest tpmsCapabilityData
 ours-makes-the-kinds = refl
 
 -- two lists of layouts, one by one: the second has a later one
@@ -44,6 +46,9 @@ module _ {e : Edition} (x : Extends e) where
 
   attestations : LaterRule 2 attestation (attestationIn e)
   attestations = rule-longer (omega arith) (x .attestations)
+
+  caps : LaterRule 4 cap (capIn e)
+  caps = rule-longer (omega arith) (x .caps)
 
   -- a code of ours, and then what follows it
   by-alg : {k k′ : ℕ → Layout} → ((n : ℕ) → Later (k n) (k′ n)) → Later (number 2 alg k) (number 2 (algIn e) k′)
@@ -135,11 +140,28 @@ module _ {e : Edition} (x : Extends e) where
       let two : Later tpmsSignatureEcc (tpmsSignatureEccIn e) = by-alg (λ n. later-refl _) in
       by-alg (union-later (row-later one (row-later one (row-later two (row-later two (row-later two (row-later two (row-later ha (row-later stop-same (more-rows (e .tpmuSignature)))))))))))
 
+  -- ---- the lists, a line each
+
+  items : (which : ListOf) → Later (itemLayout which) (itemLayoutIn e which)
+  unfolding tpmsPcrSelection tpmsPcrSelectionIn tpmsAlgProperty tpmsAlgPropertyIn tpmsTaggedPolicy tpmsTaggedPolicyIn
+  items AlgProperty = by-alg (λ n. later-refl _)
+  items Handle = later-refl _
+  items Cca = later-refl _
+  items Cc = later-refl _
+  items PcrSelection = by-alg (λ n. later-refl _)
+  items TaggedTpmProperty = later-refl _
+  items EccCurve = number-later curves (λ n a. stop-same)
+  items TaggedPolicy = number-later rule-same (λ n a. ha)
+  items ActData = later-refl _
+
+  lists : (which : ListOf) → Later (tpml which) (tpmlIn e which)
+  lists which = counted-same (items which) stop-same
+
   -- ---- PCR selections and attestations
 
   pcr-selections : Later tpmlPcrSelection (tpmlPcrSelectionIn e)
-  unfolding tpmlPcrSelection tpmlPcrSelectionIn tpmsPcrSelection tpmsPcrSelectionIn
-  pcr-selections = counted-same (by-alg (λ n. later-refl _)) stop-same
+  unfolding tpmlPcrSelection tpmlPcrSelectionIn
+  pcr-selections = lists PcrSelection
 
   attest : Later tpmsAttest (tpmsAttestIn e)
   unfolding tpmsAttest tpmsAttestIn tpmuAttest tpmuAttestArm tpmuAttestIn tpmsQuoteInfo tpmsQuoteInfoIn tpmsCommandAuditInfo tpmsCommandAuditInfoIn
@@ -151,12 +173,18 @@ module _ {e : Edition} (x : Extends e) where
       (number-later rule-same (λ f c. union-later (row-later (same _) (row-later (same _) (row-later quote (row-later audit
       (row-later (same _) (row-later (same _) (row-later (same _) (row-later (same _) (more-rows (e .tpmuAttest)))))))))) v))))))
 
+  capability-data : Later tpmsCapabilityData (tpmsCapabilityDataIn e)
+  unfolding tpmsCapabilityData tpmsCapabilityDataIn tpmuCapabilities tpmuCapabilitiesArm tpmuCapabilitiesIn
+  capability-data =
+      number-later caps (λ v a. union-later (row-later (lists AlgProperty) (row-later (lists Handle) (row-later (lists Cca) (row-later (lists Cc) (row-later (lists Cc)
+      (row-later pcr-selections (row-later (lists TaggedTpmProperty) (row-later (lists EccCurve) (row-later (lists TaggedPolicy) (row-later (lists ActData) (more-rows (e .tpmuCapabilities)))))))))))) v)
+
   -- ---- all kinds
 
   all : AllLater kinds (kindsIn e)
   unfolding kinds kindsIn
   all =
-      (ha, (sym-def, (kdf-scheme, (keyedhash-scheme, (sig-scheme, (asym-scheme, (asym-scheme, (asym-scheme, (public-parms, (signature, (public, (sensitive, (attest, (pcr-selections, tt))))))))))))))
+      (ha, (sym-def, (kdf-scheme, (keyedhash-scheme, (sig-scheme, (asym-scheme, (asym-scheme, (asym-scheme, (public-parms, (signature, (public, (sensitive, (attest, (pcr-selections, (capability-data, tt)))))))))))))))
 
   -- of every number the layout in the edition is a later one than ours
   pub extension-is-later : (k : ℕ) → Later (layoutOf k) (layoutIn e k)

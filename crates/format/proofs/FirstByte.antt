@@ -13,8 +13,8 @@ use Rattle.wire.specs.Bytes.{digits}
 use Rattle.wire.specs.Layout.{Layout, noArm, number, counted}
 use Rattle.wire.specs.Grammar.{Token, Spells, says, counts}
 use Rattle.wire.proofs.Split.{no-arm-no-record}
-use Rattle.codes.specs.Codes.{member, algorithms, isAlgorithm, alg, magic}
-use Rattle.format.specs.Kinds.{tpmtHa, tpmtSymDef, tpmtKdfScheme, tpmtKeyedhashScheme, tpmtSigScheme, tpmtAsymScheme, tpmtPublicParms, tpmtSignature, tpmtPublic, tpmtSensitive, tpmsAttest, tpmlPcrSelection, kinds, isKind, layoutOf}
+use Rattle.codes.specs.Codes.{member, algorithms, caps, isAlgorithm, isCap, alg, cap, magic}
+use Rattle.format.specs.Kinds.{tpmtHa, tpmtSymDef, tpmtKdfScheme, tpmtKeyedhashScheme, tpmtSigScheme, tpmtAsymScheme, tpmtPublicParms, tpmtSignature, tpmtPublic, tpmtSensitive, tpmsAttest, tpmlPcrSelection, tpmsCapabilityData, kinds, isKind, layoutOf}
 use Rattle.format.proofs.Tables.{_&_}
 use Rattle.format.proofs.Numbered.{outside}
 
@@ -44,7 +44,7 @@ algorithm-small : (n : ℕ) → isAlgorithm n ≡ true → n < 256 ^ 1
 unfolding isAlgorithm algorithms
 algorithm-small n a = omega (arith, member-most algorithms n a)
 
--- ---- what the kinds begin with: an algorithm's code, the magic, or the list's count
+-- ---- what the kinds begin with: an algorithm's or a capability's code, the magic, or the list's count
 
 -- every record of the layout has a first byte, and that is 0 or 255
 abbrev First : Layout → Type 0
@@ -52,6 +52,11 @@ First l = (ts : List Token) (bs : List ℕ) → Spells l ts bs → (b : ℕ) × 
 
 code-first : {k : ℕ → Layout} → First (number 2 alg k)
 code-first ts bs (says {cs = cs} n h a e d) = (0, _, e ∙ ap (λ ds. ds ++ cs) (leading-zero 1 n (algorithm-small n a)), inl refl)
+
+-- and for a capability's
+cap-first : {k : ℕ → Layout} → First (number 4 cap k)
+unfolding isCap caps
+cap-first ts bs (says {cs = cs} n h a e d) = (0, _, e ∙ ap (λ ds. ds ++ cs) (leading-zero 3 n (omega (arith, member-most caps n a))), inl refl)
 
 magic-first : {k : ℕ → Layout} → First (number 4 magic k)
 unfolding digits
@@ -72,11 +77,11 @@ first-at (l ∷ ls) h zero ts bs d = h .0 ts bs d
 first-at (l ∷ ls) h (suc j) ts bs d = first-at ls (h .1) j ts bs d
 
 kinds-first : AllFirst kinds
-unfolding kinds tpmtHa tpmtSymDef tpmtKdfScheme tpmtKeyedhashScheme tpmtSigScheme tpmtAsymScheme tpmtPublicParms tpmtSignature tpmtPublic tpmtSensitive tpmsAttest tpmlPcrSelection
+unfolding kinds tpmtHa tpmtSymDef tpmtKdfScheme tpmtKeyedhashScheme tpmtSigScheme tpmtAsymScheme tpmtPublicParms tpmtSignature tpmtPublic tpmtSensitive tpmsAttest tpmlPcrSelection tpmsCapabilityData
 kinds-first =
     code-first & code-first & code-first & code-first & code-first & code-first & code-first & code-first
     & code-first & code-first & code-first & code-first & magic-first & count-first (omega arith)
-    & tt
+    & cap-first & tt
 
 -- ---- by number
 

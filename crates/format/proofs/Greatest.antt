@@ -12,65 +12,16 @@ use Rattle.wire.specs.Layout.{Rule, Layout, stop, noArm, number, plain, one, fr
 use Rattle.wire.specs.Sizes.{AtMost, Reaches, Greatest}
 use Rattle.wire.specs.Unions.{Row, bodyOf, union}
 use Rattle.wire.proofs.Sizes.{stop-most, no-arm-most, arm-most, number-most, plain-most, buffer-most, then-most, most-wider, stop-reaches, arm-reaches, number-reaches, plain-reaches, buffer-reaches, then-reaches}
-use Rattle.format.specs.declared.list.ListOf.the-variants.{PcrSelection}
-use Rattle.codes.specs.Codes.{algorithms, attestations, isAlgorithm, isAttestation, alg, curve, attestation, yesNo, magic}
-use Rattle.format.specs.Kinds.{tpmuHaTable, tpmuAsymSchemeTable, tpmuSigSchemeTable, tpmuKeyedhashSchemeTable, tpmuKdfSchemeTable, tpmuSymKeyBitsTable, tpmuSymModeTable, tpmuPublicParmsTable, tpmuPublicIdTable, tpmuSensitiveCompositeTable, tpmuSignatureTable, tpmuAttestTable, tpmuHaArm, tpmuAsymSchemeArm, tpmuSigSchemeArm, tpmuKeyedhashSchemeArm, tpmuKdfSchemeArm, tpmuSymKeyBitsArm, tpmuSymModeArm, tpmuPublicParmsArm, tpmuPublicIdArm, tpmuSensitiveCompositeArm, tpmuSignatureArm, tpmuAttestArm, tpmsSchemeHash, tpmsSchemeEcdaa, tpmsSchemeXor, tpmuHa, tpmuAsymScheme, tpmuSigScheme, tpmuKeyedhashScheme, tpmuKdfScheme, tpmuSymKeyBits, tpmuSymMode, tpmuPublicParms, tpmuPublicId, tpmuSensitiveComposite, tpmuSignature, tpmuAttest, tpmtHa, tpmtSymDef, tpmtKdfScheme, tpmtKeyedhashScheme, tpmtSigScheme, tpmtAsymScheme, tpmsRsaParms, tpmsEccParms, tpmsEccPoint, tpmsSignatureRsa, tpmsSignatureEcc, tpmtPublicParms, tpmtSignature, tpmtPublic, tpmtSensitive, tpmlPcrSelection, tpmsClockInfo, tpmsCertifyInfo, tpmsCreationInfo, tpmsQuoteInfo, tpmsCommandAuditInfo, tpmsSessionAuditInfo, tpmsTimeInfo, tpmsTimeAttestInfo, tpmsNvCertifyInfo, tpmsNvDigestCertifyInfo, tpmsAttest, kinds, layoutOf}
+use Rattle.format.specs.declared.list.ListOf.{ListOf}
+use Rattle.format.specs.declared.list.ListOf.the-variants.{AlgProperty, Handle, Cca, Cc, PcrSelection, TaggedTpmProperty, EccCurve, TaggedPolicy, ActData}
+use Rattle.codes.specs.Codes.{algorithms, attestations, caps, isAlgorithm, isAttestation, isCap, alg, curve, attestation, cap, yesNo, magic, capAuthPolicies}
+use Rattle.format.specs.Kinds.{tpmuHaTable, tpmuAsymSchemeTable, tpmuSigSchemeTable, tpmuKeyedhashSchemeTable, tpmuKdfSchemeTable, tpmuSymKeyBitsTable, tpmuSymModeTable, tpmuPublicParmsTable, tpmuPublicIdTable, tpmuSensitiveCompositeTable, tpmuSignatureTable, tpmuAttestTable, tpmuCapabilitiesTable, tpmuHaArm, tpmuAsymSchemeArm, tpmuSigSchemeArm, tpmuKeyedhashSchemeArm, tpmuKdfSchemeArm, tpmuSymKeyBitsArm, tpmuSymModeArm, tpmuPublicParmsArm, tpmuPublicIdArm, tpmuSensitiveCompositeArm, tpmuSignatureArm, tpmuAttestArm, tpmuCapabilitiesArm, tpmsSchemeHash, tpmsSchemeEcdaa, tpmsSchemeXor, tpmuHa, tpmuAsymScheme, tpmuSigScheme, tpmuKeyedhashScheme, tpmuKdfScheme, tpmuSymKeyBits, tpmuSymMode, tpmuPublicParms, tpmuPublicId, tpmuSensitiveComposite, tpmuSignature, tpmuAttest, tpmuCapabilities, tpmtHa, tpmtSymDef, tpmtKdfScheme, tpmtKeyedhashScheme, tpmtSigScheme, tpmtAsymScheme, tpmsRsaParms, tpmsEccParms, tpmsEccPoint, tpmsSignatureRsa, tpmsSignatureEcc, tpmtPublicParms, tpmtSignature, tpmtPublic, tpmtSensitive, tpml, tpmlPcrSelection, tpmsClockInfo, tpmsCertifyInfo, tpmsCreationInfo, tpmsQuoteInfo, tpmsCommandAuditInfo, tpmsSessionAuditInfo, tpmsTimeInfo, tpmsTimeAttestInfo, tpmsNvCertifyInfo, tpmsNvDigestCertifyInfo, tpmsAttest, tpmsCapabilityData, kinds, layoutOf}
 use Rattle.format.specs.Sizes.{greatest, AllGreatest}
 use Rattle.format.proofs.Tables.{_&_}
-use Rattle.format.proofs.Lists.{list-greatest}
-
--- ---- unions: every arm that can be chosen is small enough
-
--- one number
-one-most : (w : ℕ) (r : Rule) → AtMost (one w r) (w + 0)
-one-most w r = number-most w 0 r (λ n a. stop-most)
-
--- nothing
-none-most : {m : ℕ} → AtMost stop m
-none-most = most-wider (omega arith) stop-most
-
--- what each row of a table holds is small enough
-abbrev RowsMost : List Row → ℕ → Type 0
-RowsMost [] m = Unit {0}
-RowsMost (r ∷ rs) m = AtMost (r .holds) m × RowsMost rs m
-
-cond-most : {m : ℕ} (b : Bool) (k l : Layout) → AtMost k m → AtMost l m → AtMost (cond b k l) m
-cond-most true k l h g = h
-cond-most false k l h g = g
-
-body-most : (m : ℕ) (rs : List Row) → RowsMost rs m → (t : ℕ) → AtMost (bodyOf rs t) m
-body-most m [] h t = no-arm-most t m
-body-most m (r ∷ rs) h t = cond-most (eqb t (r .chooses)) (r .holds) (bodyOf rs t) (h .0) (body-most m rs (h .1) t)
-
--- so the union is
-union-most : (m : ℕ) (rs : List Row) → RowsMost rs m → (c : Choice) (v : ℕ) → AtMost (union c (λ t. bodyOf rs t) v) m
-union-most m rs h Nothing v = no-arm-most v m
-union-most m rs h (The t) v = arm-most v t (body-most m rs h t)
-
--- a bound on a number's layout, from a bound on what follows every number
-follows : {k : ℕ → Layout} (w m : ℕ) (r : Rule) → ((n : ℕ) → AtMost (k n) m) → AtMost (number w r k) (w + m)
-follows w m r h = number-most w m r (λ n a. h n)
+use Rattle.format.proofs.Bounds.{one-most, none-most, RowsMost, union-most, follows, ha-most, ha-reaches}
+use Rattle.format.proofs.Lists.{list-small, list-greatest}
 
 -- ---- no record of the kind is larger
-
-digest-most : (n : ℕ) → n + 0 ≤ 64 → AtMost (plain n stop) 64
-digest-most n h = most-wider h (plain-most n 0 stop-most)
-
-ha-by-most : (v : ℕ) → AtMost (tpmuHa v) 64
-unfolding tpmuHa
-ha-by-most v = union-most 64 tpmuHaTable rows (tpmuHaArm v) v
-  where
-    rows : RowsMost tpmuHaTable 64
-    rows =
-        digest-most 20 (omega arith) & digest-most 24 (omega arith)
-        & digest-most 32 (omega arith) & digest-most 32 (omega arith) & digest-most 32 (omega arith) & digest-most 32 (omega arith)
-        & digest-most 48 (omega arith) & digest-most 48 (omega arith)
-        & digest-most 64 (omega arith) & digest-most 64 (omega arith) & digest-most 64 (omega arith)
-        & none-most & tt
-
-ha-most : AtMost tpmtHa 66
-unfolding tpmtHa
-ha-most = follows 2 64 alg ha-by-most
 
 -- a code
 hash-most : AtMost tpmsSchemeHash 2
@@ -230,11 +181,19 @@ unfolding tpmsAttest
 attest-most =
     follows 4 2283 magic (λ n. follows 2 2281 attestation (λ type. buffer-most 2 66 2213 (buffer-most 2 66 2145 (then-most _ _ 17 2128 clock-most (follows 8 2120 free (λ n. attest-by-most type))))))
 
--- ---- and one is so large
+capability-most : AtMost tpmsCapabilityData 1128
+unfolding tpmsCapabilityData tpmuCapabilities tpmlPcrSelection
+capability-most = follows 4 1124 cap (λ v. union-most 1124 tpmuCapabilitiesTable rows (tpmuCapabilitiesArm v) v)
+  where
+    list-most : (which : ListOf) → AtMost (tpml which) 1124
+    list-most which = most-wider (list-small which) (list-greatest which .most)
 
-ha-reaches : Reaches tpmtHa 66
-unfolding tpmtHa isAlgorithm algorithms tpmuHa tpmuHaArm
-ha-reaches = number-reaches 2 alg 0x0D (omega arith) refl (arm-reaches 0x0D 320 (plain-reaches 64 stop-reaches))
+    rows : RowsMost tpmuCapabilitiesTable 1124
+    rows =
+        list-most AlgProperty & list-most Handle & list-most Cca & list-most Cc & list-most Cc & list-most PcrSelection
+        & list-most TaggedTpmProperty & list-most EccCurve & list-most TaggedPolicy & list-most ActData & tt
+
+-- ---- and one is so large
 
 code-reaches : Reaches (one 2 alg) 2
 unfolding isAlgorithm algorithms
@@ -323,7 +282,12 @@ attest-reaches =
     (buffer-reaches 2 66 (omega arith)
     (buffer-reaches 2 66 (omega arith) (then-reaches clock-reaches (number-reaches 8 free 0 (omega arith) refl nv-reaches)))))
 
--- ---- all fourteen
+-- sixteen policies of 64 bytes
+capability-reaches : Reaches tpmsCapabilityData 1128
+unfolding tpmsCapabilityData isCap caps tpmuCapabilities tpmuCapabilitiesArm
+capability-reaches = number-reaches 4 cap capAuthPolicies (omega arith) refl (arm-reaches capAuthPolicies capAuthPolicies (list-greatest TaggedPolicy .reached))
+
+-- ---- all kinds
 
 both : {l : Layout} {m : ℕ} → AtMost l m → Reaches l m → Greatest l m
 both h g = record { most = h; reached = g }
@@ -345,6 +309,7 @@ greatest-sizes =
     & both sensitive-most sensitive-reaches
     & both attest-most attest-reaches
     & both pcr-most pcr-reaches
+    & both capability-most capability-reaches
     & tt
 
 -- ---- and any
@@ -357,7 +322,7 @@ all-within : Within 2287 greatest
 unfolding greatest
 all-within =
     omega arith & omega arith & omega arith & omega arith & omega arith & omega arith & omega arith & omega arith & omega arith & omega arith
-    & omega arith & omega arith & omega arith & omega arith & tt
+    & omega arith & omega arith & omega arith & omega arith & omega arith & tt
 
 each-most : {m : ℕ} (ls : List Layout) (ns : List ℕ) → AllGreatest ls ns → Within m ns → (k : ℕ) → AtMost (getD ls k (noArm 0)) m
 each-most {m} [] [] g w k = no-arm-most 0 m

@@ -1,5 +1,6 @@
 pub mod ArmsMistaken
 pub mod Tables
+pub mod Bounds
 pub mod Lists
 pub mod Greatest
 pub mod Numbered

@@ -14,21 +14,22 @@ use Rattle.wire.specs.Unions.{own}
 use Rattle.wire.specs.Records.{num, tag, span, refused, parsed, Ans, Parsed}
 use Rattle.wire.specs.Reading.{piece, field, read, list}
 use Rattle.wire.specs.Editions.{Later}
-use Rattle.codes.specs.Codes.{algorithms, isAlgorithm, isCurve, isAttestation, sha1, curves, attestations}
+use Rattle.codes.specs.Codes.{algorithms, isAlgorithm, isCurve, isAttestation, isCap, sha1, curves, attestations, caps, capAlgs, capPcrs, capPcrProperties, capEccCurves, capAuthPolicies, capTpmProperties}
 use Rattle.codes.specs.Digests.{digestRow}
-use Rattle.format.specs.Kinds.{digestOf, tpmuHaArm, tpmuHa, tpmtHa, kinds, layoutOf, tpmuAsymSchemeArm, tpmuAsymScheme, tpmuSigSchemeArm, tpmuSigScheme, tpmuKeyedhashSchemeArm, tpmuKeyedhashScheme, tpmuKdfSchemeArm, tpmuKdfScheme, tpmuSymKeyBitsArm, tpmuSymKeyBits, tpmuSymModeArm, tpmuSymMode, tpmuPublicParmsArm, tpmuPublicParms, tpmuPublicIdArm, tpmuPublicId, tpmuSensitiveCompositeArm, tpmuSensitiveComposite, tpmuSignatureArm, tpmuSignature, tpmuAttestArm, tpmuAttest, tpmsSchemeHash, tpmsSchemeEcdaa, tpmsSchemeXor, tpmtSymDef, tpmtKdfScheme, tpmtKeyedhashScheme, tpmtSigScheme, tpmtAsymScheme, tpmsRsaParms, tpmsEccParms, tpmsSignatureRsa, tpmsSignatureEcc, tpmtPublicParms, tpmtSignature, tpmtPublic, tpmtSensitive, tpmsPcrSelection, tpmlPcrSelection, tpmsQuoteInfo, tpmsCommandAuditInfo, tpmsAttest, tpmsClockInfo}
+use Rattle.format.specs.Kinds.{digestOf, tpmuHaArm, tpmuHa, tpmtHa, kinds, layoutOf, tpmuAsymSchemeArm, tpmuAsymScheme, tpmuSigSchemeArm, tpmuSigScheme, tpmuKeyedhashSchemeArm, tpmuKeyedhashScheme, tpmuKdfSchemeArm, tpmuKdfScheme, tpmuSymKeyBitsArm, tpmuSymKeyBits, tpmuSymModeArm, tpmuSymMode, tpmuPublicParmsArm, tpmuPublicParms, tpmuPublicIdArm, tpmuPublicId, tpmuSensitiveCompositeArm, tpmuSensitiveComposite, tpmuSignatureArm, tpmuSignature, tpmuAttestArm, tpmuAttest, tpmuCapabilitiesArm, tpmuCapabilities, tpmsSchemeHash, tpmsSchemeEcdaa, tpmsSchemeXor, tpmtSymDef, tpmtKdfScheme, tpmtKeyedhashScheme, tpmtSigScheme, tpmtAsymScheme, tpmsRsaParms, tpmsEccParms, tpmsSignatureRsa, tpmsSignatureEcc, tpmtPublicParms, tpmtSignature, tpmtPublic, tpmtSensitive, tpmsPcrSelection, tpmsAlgProperty, tpmsTaggedProperty, tpmsTaggedPolicy, tpmlPcrSelection, tpmsQuoteInfo, tpmsCommandAuditInfo, tpmsAttest, tpmsCapabilityData, tpmsClockInfo}
 use Rattle.format.specs.Editions.{Edition, Extends}
-use Rattle.format.specs.EditionKinds.{tpmuHaIn, tpmtHaIn, kindsIn, layoutIn, tpmuAsymSchemeIn, tpmuSigSchemeIn, tpmuKeyedhashSchemeIn, tpmuKdfSchemeIn, tpmuSymKeyBitsIn, tpmuSymModeIn, tpmuPublicParmsIn, tpmuPublicIdIn, tpmuSensitiveCompositeIn, tpmuSignatureIn, tpmuAttestIn, tpmsSchemeHashIn, tpmsSchemeEcdaaIn, tpmsSchemeXorIn, tpmtSymDefIn, tpmtKdfSchemeIn, tpmtKeyedhashSchemeIn, tpmtSigSchemeIn, tpmtAsymSchemeIn, tpmsRsaParmsIn, tpmsEccParmsIn, tpmsSignatureRsaIn, tpmsSignatureEccIn, tpmtPublicParmsIn, tpmtSignatureIn, tpmtPublicIn, tpmtSensitiveIn, tpmsPcrSelectionIn, tpmlPcrSelectionIn, tpmsQuoteInfoIn, tpmsCommandAuditInfoIn, tpmsAttestIn}
+use Rattle.format.specs.EditionKinds.{tpmuHaIn, tpmtHaIn, kindsIn, layoutIn, tpmuAsymSchemeIn, tpmuSigSchemeIn, tpmuKeyedhashSchemeIn, tpmuKdfSchemeIn, tpmuSymKeyBitsIn, tpmuSymModeIn, tpmuPublicParmsIn, tpmuPublicIdIn, tpmuSensitiveCompositeIn, tpmuSignatureIn, tpmuAttestIn, tpmuCapabilitiesIn, tpmsSchemeHashIn, tpmsSchemeEcdaaIn, tpmsSchemeXorIn, tpmtSymDefIn, tpmtKdfSchemeIn, tpmtKeyedhashSchemeIn, tpmtSigSchemeIn, tpmtAsymSchemeIn, tpmsRsaParmsIn, tpmsEccParmsIn, tpmsSignatureRsaIn, tpmsSignatureEccIn, tpmtPublicParmsIn, tpmtSignatureIn, tpmtPublicIn, tpmtSensitiveIn, tpmsPcrSelectionIn, tpmsAlgPropertyIn, tpmsTaggedPolicyIn, tpmlPcrSelectionIn, tpmsQuoteInfoIn, tpmsCommandAuditInfoIn, tpmsAttestIn, tpmsCapabilityDataIn}
 use Rattle.format.proofs.Editions.{extension-is-later}
 
--- algorithm 002F, curve 0050 and attestation type 8020 are listed; 002F, and 8020, have an arm in every table, a digest of 28 bytes or a
--- number of two; and 002A, which is listed here and has no arm, has a digest of 16
+-- algorithm 002F, curve 0050, attestation type 8020 and capability 0B are listed; 002F, 8020 and 0B have an arm in every table, a digest of
+-- 28 bytes or a number; and 002A and capability 7, which are listed here and have no arm, have a digest of 16 and a number
 abbrev pub newEdition : Edition
 newEdition =
     record {
       isAlgorithm = λ n. isAlgorithm n || eqb n 0x2F;
       isCurve = λ n. isCurve n || eqb n 0x50;
       isAttestation = λ n. isAttestation n || eqb n 0x8020;
+      isCap = λ n. isCap n || eqb n 0x0B;
       tpmuHa = digestRow 0x2F 28 ∷ digestRow 0x2A 16 ∷ [];
       tpmuAsymScheme = own 0x2F (one 2 free) ∷ [];
       tpmuSigScheme = own 0x2F (one 2 free) ∷ [];
@@ -41,10 +42,11 @@ newEdition =
       tpmuSensitiveComposite = own 0x2F (one 2 free) ∷ [];
       tpmuSignature = own 0x2F (one 2 free) ∷ [];
       tpmuAttest = own 0x8020 (one 2 free) ∷ [];
+      tpmuCapabilities = own capPcrProperties (one 4 free) ∷ own 0x0B (one 4 free) ∷ [];
     }
 
 pub new-extends : Extends newEdition
-new-extends = record { algorithms = λ n h. rw h; curves = λ n h. rw h; attestations = λ n h. rw h }
+new-extends = record { algorithms = λ n h. rw h; curves = λ n h. rw h; attestations = λ n h. rw h; caps = λ n h. rw h }
 
 -- so each of its kinds is later than ours
 pub new-is-later : (k : ℕ) → Later (layoutOf k) (layoutIn newEdition k)
@@ -83,6 +85,13 @@ pub count-is-no-code :
 unfolding read field piece be layoutIn kindsIn tpmtAsymSchemeIn tpmuAsymSchemeIn tpmsSchemeEcdaaIn layoutOf kinds tpmtAsymScheme tpmuAsymScheme tpmuAsymSchemeArm tpmsSchemeEcdaa isAlgorithm algorithms
 count-is-no-code = (refl, refl)
 
+-- nor are a property's tag and value: codes of the edition's alone are free numbers there, and both read them alike
+pub property-is-no-code :
+    (read (layoutIn newEdition 15) (0 ∷ 0 ∷ 0 ∷ capTpmProperties ∷ 0 ∷ 0 ∷ 0 ∷ 1 ∷ 0 ∷ 0 ∷ 0x00 ∷ 0x2F ∷ 0 ∷ 0 ∷ 0x00 ∷ 0x2F ∷ []) 0 ≡ parsed (num 6 ∷ tag 6 ∷ span 4 12 ∷ []) 16)
+    × (read (layoutOf 15) (0 ∷ 0 ∷ 0 ∷ capTpmProperties ∷ 0 ∷ 0 ∷ 0 ∷ 1 ∷ 0 ∷ 0 ∷ 0x00 ∷ 0x2F ∷ 0 ∷ 0 ∷ 0x00 ∷ 0x2F ∷ []) 0 ≡ parsed (num 6 ∷ tag 6 ∷ span 4 12 ∷ []) 16)
+unfolding read field piece list be layoutIn kindsIn tpmsCapabilityDataIn tpmuCapabilitiesIn layoutOf kinds tpmsCapabilityData tpmuCapabilities tpmuCapabilitiesArm tpmsTaggedProperty isCap caps
+property-is-no-code = (refl, refl)
+
 -- ---- every list and every table of the edition is used
 
 -- a record of the edition: its kind and its bytes, what the edition's reader answers, and how ours refuses it
@@ -91,6 +100,10 @@ pub record NewRecord : Type 0 where
   pub spelled : List ℕ
   pub theirs : Ans Parsed
   pub ours : Refusal
+
+-- a capability, and its list
+abbrev capOne : (capability : ℕ) → List ℕ → List ℕ
+capOne c xs = 0 ∷ 0 ∷ 0 ∷ c ∷ xs
 
 abbrev new : (kind : ℕ) → List ℕ → Ans Parsed → Refusal → NewRecord
 new k bs a f = record { kind = k; spelled = bs; theirs = a; ours = f }
@@ -127,6 +140,13 @@ newRecords =
     ∷ new 14 (0 ∷ 0 ∷ 0 ∷ 1 ∷ 0x00 ∷ 0x2F ∷ 0 ∷ []) (parsed (span 0 7 ∷ []) 7) (unknownCode 4 0x2F)
     ∷ new 9 (0x00 ∷ 0x23 ∷ 0x00 ∷ 0x10 ∷ 0x00 ∷ 0x10 ∷ 0x00 ∷ 0x50 ∷ 0x00 ∷ 0x10 ∷ [])
     (parsed (num 0x23 ∷ tag 0x23 ∷ num 0x10 ∷ tag 0x10 ∷ tag 0x10 ∷ num 0x10 ∷ tag 0x10 ∷ num 0x50 ∷ num 0x10 ∷ tag 0x10 ∷ []) 10) (unknownCode 6 0x50)
+    ∷ new 15 (capOne 0x0B (0 ∷ 0 ∷ 0 ∷ 1 ∷ [])) (parsed (num 0x0B ∷ tag 0x0B ∷ num 1 ∷ []) 8) (unknownCode 0 0x0B)
+    ∷ new 15 (capOne capPcrProperties (0 ∷ 0 ∷ 0 ∷ 1 ∷ [])) (parsed (num 7 ∷ tag 7 ∷ num 1 ∷ []) 8) (noSuchArm 4 7)
+    ∷ new 15 (capOne capAlgs (0 ∷ 0 ∷ 0 ∷ 1 ∷ 0x00 ∷ 0x2F ∷ 0 ∷ 0 ∷ 0 ∷ 0 ∷ [])) (parsed (num 0 ∷ tag 0 ∷ span 4 10 ∷ []) 14) (unknownCode 8 0x2F)
+    ∷ new 15 (capOne capPcrs (0 ∷ 0 ∷ 0 ∷ 1 ∷ 0x00 ∷ 0x2F ∷ 0 ∷ [])) (parsed (num 5 ∷ tag 5 ∷ span 4 7 ∷ []) 11) (unknownCode 8 0x2F)
+    ∷ new 15 (capOne capEccCurves (0 ∷ 0 ∷ 0 ∷ 1 ∷ 0x00 ∷ 0x50 ∷ [])) (parsed (num 8 ∷ tag 8 ∷ span 4 6 ∷ []) 10) (unknownCode 8 0x50)
+    ∷ new 15 (capOne capAuthPolicies (0 ∷ 0 ∷ 0 ∷ 1 ∷ 0 ∷ 0 ∷ 0 ∷ 0 ∷ 0x00 ∷ 0x2A ∷ replicate 16 7)) (parsed (num 9 ∷ tag 9 ∷ span 4 26 ∷ []) 30) (noSuchArm 14 0x2A)
+    ∷ new 15 (capOne capAuthPolicies (0 ∷ 0 ∷ 0 ∷ 1 ∷ 0 ∷ 0 ∷ 0 ∷ 0 ∷ unlisted)) (parsed (num 9 ∷ tag 9 ∷ span 4 38 ∷ []) 42) (unknownCode 12 0x2F)
     ∷ []
 
 -- the edition reads each of them so, and we refuse it so
@@ -135,5 +155,5 @@ AllAnswered [] = Unit {0}
 AllAnswered (r ∷ rs) = (read (layoutIn newEdition (r .kind)) (r .spelled) 0 ≡ r .theirs) × (read (layoutOf (r .kind)) (r .spelled) 0 ≡ refused (r .ours)) × AllAnswered rs
 
 pub new-records-are-answered : AllAnswered newRecords
-unfolding read field piece list be layoutIn layoutOf isAlgorithm algorithms isCurve curves isAttestation attestations _then_ kindsIn kinds tpmuHaIn tpmuAsymSchemeIn tpmuSigSchemeIn tpmuKeyedhashSchemeIn tpmuKdfSchemeIn tpmuSymKeyBitsIn tpmuSymModeIn tpmuPublicParmsIn tpmuPublicIdIn tpmuSensitiveCompositeIn tpmuSignatureIn tpmuAttestIn tpmsSchemeHashIn tpmsSchemeEcdaaIn tpmsSchemeXorIn tpmtHaIn tpmtSymDefIn tpmtKdfSchemeIn tpmtKeyedhashSchemeIn tpmtSigSchemeIn tpmtAsymSchemeIn tpmsRsaParmsIn tpmsEccParmsIn tpmsSignatureRsaIn tpmsSignatureEccIn tpmtPublicParmsIn tpmtSignatureIn tpmtPublicIn tpmtSensitiveIn tpmsPcrSelectionIn tpmlPcrSelectionIn tpmsQuoteInfoIn tpmsCommandAuditInfoIn tpmsAttestIn tpmuHaArm tpmuHa tpmuAsymSchemeArm tpmuAsymScheme tpmuSigSchemeArm tpmuSigScheme tpmuKeyedhashSchemeArm tpmuKeyedhashScheme tpmuKdfSchemeArm tpmuKdfScheme tpmuSymKeyBitsArm tpmuSymKeyBits tpmuSymModeArm tpmuSymMode tpmuPublicParmsArm tpmuPublicParms tpmuPublicIdArm tpmuPublicId tpmuSensitiveCompositeArm tpmuSensitiveComposite tpmuSignatureArm tpmuSignature tpmuAttestArm tpmuAttest tpmsSchemeHash tpmsSchemeEcdaa tpmsSchemeXor tpmtHa tpmtSymDef tpmtKdfScheme tpmtKeyedhashScheme tpmtSigScheme tpmtAsymScheme tpmsRsaParms tpmsEccParms tpmsSignatureRsa tpmsSignatureEcc tpmtPublicParms tpmtSignature tpmtPublic tpmtSensitive tpmsPcrSelection tpmlPcrSelection tpmsQuoteInfo tpmsCommandAuditInfo tpmsClockInfo tpmsAttest
-new-records-are-answered = (refl, refl, (refl, refl, (refl, refl, (refl, refl, (refl, refl, (refl, refl, (refl, refl, (refl, refl, (refl, refl, (refl, refl, (refl, refl, (refl, refl, (refl, refl, (refl, refl, (refl, refl, (refl, refl, (refl, refl, (refl, refl, (refl, refl, (refl, refl, tt))))))))))))))))))))
+unfolding read field piece list be layoutIn layoutOf isAlgorithm algorithms isCurve curves isAttestation attestations isCap caps _then_ kindsIn kinds tpmuHaIn tpmuAsymSchemeIn tpmuSigSchemeIn tpmuKeyedhashSchemeIn tpmuKdfSchemeIn tpmuSymKeyBitsIn tpmuSymModeIn tpmuPublicParmsIn tpmuPublicIdIn tpmuSensitiveCompositeIn tpmuSignatureIn tpmuAttestIn tpmuCapabilitiesIn tpmsSchemeHashIn tpmsSchemeEcdaaIn tpmsSchemeXorIn tpmtHaIn tpmtSymDefIn tpmtKdfSchemeIn tpmtKeyedhashSchemeIn tpmtSigSchemeIn tpmtAsymSchemeIn tpmsRsaParmsIn tpmsEccParmsIn tpmsSignatureRsaIn tpmsSignatureEccIn tpmtPublicParmsIn tpmtSignatureIn tpmtPublicIn tpmtSensitiveIn tpmsPcrSelectionIn tpmsAlgPropertyIn tpmsTaggedPolicyIn tpmlPcrSelectionIn tpmsQuoteInfoIn tpmsCommandAuditInfoIn tpmsAttestIn tpmsCapabilityDataIn tpmuHaArm tpmuHa tpmuAsymSchemeArm tpmuAsymScheme tpmuSigSchemeArm tpmuSigScheme tpmuKeyedhashSchemeArm tpmuKeyedhashScheme tpmuKdfSchemeArm tpmuKdfScheme tpmuSymKeyBitsArm tpmuSymKeyBits tpmuSymModeArm tpmuSymMode tpmuPublicParmsArm tpmuPublicParms tpmuPublicIdArm tpmuPublicId tpmuSensitiveCompositeArm tpmuSensitiveComposite tpmuSignatureArm tpmuSignature tpmuAttestArm tpmuAttest tpmuCapabilitiesArm tpmuCapabilities tpmsSchemeHash tpmsSchemeEcdaa tpmsSchemeXor tpmtHa tpmtSymDef tpmtKdfScheme tpmtKeyedhashScheme tpmtSigScheme tpmtAsymScheme tpmsRsaParms tpmsEccParms tpmsSignatureRsa tpmsSignatureEcc tpmtPublicParms tpmtSignature tpmtPublic tpmtSensitive tpmsPcrSelection tpmsAlgProperty tpmsTaggedPolicy tpmlPcrSelection tpmsQuoteInfo tpmsCommandAuditInfo tpmsClockInfo tpmsAttest tpmsCapabilityData
+new-records-are-answered = (refl, refl, (refl, refl, (refl, refl, (refl, refl, (refl, refl, (refl, refl, (refl, refl, (refl, refl, (refl, refl, (refl, refl, (refl, refl, (refl, refl, (refl, refl, (refl, refl, (refl, refl, (refl, refl, (refl, refl, (refl, refl, (refl, refl, (refl, refl, (refl, refl, (refl, refl, (refl, refl, (refl, refl, (refl, refl, (refl, refl, (refl, refl, tt)))))))))))))))))))))))))))

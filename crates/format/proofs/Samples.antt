@@ -10,8 +10,8 @@ use Rattle.wire.specs.Layout.{_then_}
 use Rattle.wire.specs.Records.{span, refused}
 use Rattle.wire.specs.Reading.{piece, field, list, read}
 use Rattle.wire.specs.Writing.{cut, whole, lay}
-use Rattle.codes.specs.Codes.{algorithms, curves, isAlgorithm, isCurve}
-use Rattle.format.specs.Kinds.{tpmuHaArm, tpmuAsymSchemeArm, tpmuKdfSchemeArm, tpmuSymKeyBitsArm, tpmuSymModeArm, tpmuPublicParmsArm, tpmuPublicIdArm, tpmsSchemeHash, tpmuHa, tpmuAsymScheme, tpmuKdfScheme, tpmuSymKeyBits, tpmuSymMode, tpmuPublicParms, tpmuPublicId, tpmtHa, tpmtSymDef, tpmtKdfScheme, tpmtAsymScheme, tpmsEccParms, tpmsEccPoint, tpmtPublic, tpmsPcrSelection, tpmlPcrSelection, kinds, layoutOf, readKind}
+use Rattle.codes.specs.Codes.{algorithms, curves, isAlgorithm, isCurve, caps, isCap}
+use Rattle.format.specs.Kinds.{tpmuHaArm, tpmuAsymSchemeArm, tpmuKdfSchemeArm, tpmuSymKeyBitsArm, tpmuSymModeArm, tpmuPublicParmsArm, tpmuPublicIdArm, tpmsSchemeHash, tpmuHa, tpmuAsymScheme, tpmuKdfScheme, tpmuSymKeyBits, tpmuSymMode, tpmuPublicParms, tpmuPublicId, tpmtHa, tpmtSymDef, tpmtKdfScheme, tpmtAsymScheme, tpmsEccParms, tpmsEccPoint, tpmtPublic, tpmsPcrSelection, tpmlPcrSelection, kinds, layoutOf, readKind, tpmsAlgProperty, tpmsTaggedPolicy, tpmuCapabilitiesArm, tpmuCapabilities, tpmsCapabilityData}
 use Rattle.format.specs.Samples.{AllHold, samples}
 use Rattle.format.proofs.Tables.{_&_}
 
@@ -22,13 +22,14 @@ alone P p (x ∷ xs) e = absurd (omega arith)
 
 -- each sample is read, or refused, as it says
 pub samples-hold : AllHold samples
-unfolding samples readKind layoutOf kinds read piece field list be _then_ algorithms curves isAlgorithm isCurve tpmsSchemeHash tpmuHaArm tpmuAsymSchemeArm tpmuKdfSchemeArm tpmuSymKeyBitsArm tpmuSymModeArm tpmuPublicParmsArm tpmuPublicIdArm tpmuHa tpmuAsymScheme tpmuKdfScheme tpmuSymKeyBits tpmuSymMode tpmuPublicParms tpmuPublicId tpmtHa tpmtSymDef tpmtKdfScheme tpmtAsymScheme tpmsEccParms tpmsEccPoint tpmtPublic tpmsPcrSelection tpmlPcrSelection
+unfolding samples readKind layoutOf kinds read piece field list be _then_ algorithms curves caps isAlgorithm isCurve isCap tpmsSchemeHash tpmuHaArm tpmuAsymSchemeArm tpmuKdfSchemeArm tpmuSymKeyBitsArm tpmuSymModeArm tpmuPublicParmsArm tpmuPublicIdArm tpmuHa tpmuAsymScheme tpmuKdfScheme tpmuSymKeyBits tpmuSymMode tpmuPublicParms tpmuPublicId tpmtHa tpmtSymDef tpmtKdfScheme tpmtAsymScheme tpmsEccParms tpmsEccPoint tpmtPublic tpmsPcrSelection tpmlPcrSelection tpmsAlgProperty tpmsTaggedPolicy tpmuCapabilitiesArm tpmuCapabilities tpmsCapabilityData
 samples-hold =
     alone _ refl & alone _ refl & alone _ refl
     & (λ xs e. rw (e, e, drop-of-length-le xs {i = 20} (omega arith)))
     & (λ xs e. rw (e, e))
     & alone _ refl & alone _ refl & alone _ refl & alone _ refl & alone _ refl & alone _ refl & alone _ refl
-    & alone _ refl & alone _ refl & alone _ refl & alone _ refl & alone _ refl & alone _ refl & tt
+    & alone _ refl & alone _ refl & alone _ refl & alone _ refl & alone _ refl & alone _ refl
+    & alone _ refl & alone _ refl & alone _ refl & alone _ refl & alone _ refl & alone _ refl & alone _ refl & alone _ refl & alone _ refl & alone _ refl & alone _ refl & tt
 
 -- a list's span is walked as if it were the whole input: of these seven bytes, a legal list, the span holds five, so an item's first field
 -- is cut and had one byte, though the source goes on

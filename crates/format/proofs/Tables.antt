@@ -1,14 +1,18 @@
--- What holds of the twelve tables. Assumes nothing.
+-- What holds of the tables. Assumes nothing.
 use Prim.Native.Nat.{ℕ, _≤_}
 use native.Mathlib.Omega.{arith}
-use mathlib.Core.Path.{_≡_, refl, sym}
+use mathlib.Core.Path.{_≡_, refl, sym, ap, _∙_}
 use mathlib.Core.Bool.{Bool, true, false, cond}
 use mathlib.Core.List.{List, [], _∷_}
+use lib.Dec.{eqb}
+use borrow.Author.Tests.{ne-eqb, leb-true}
+use Rattle.wire.specs.declared.choice.Choice.{Choice}
 use Rattle.wire.specs.declared.choice.Choice.the-variants.{Nothing, The}
 use Rattle.wire.specs.Layout.{Layout, stop, plain}
 use Rattle.wire.specs.Unions.{Row}
-use Rattle.format.specs.Kinds.{digestOf, digestSize, tpmsSchemeHash, tpmuHaTable, tpmuAsymSchemeTable, tpmuSigSchemeTable, tpmuKeyedhashSchemeTable, tpmuKdfSchemeTable, tpmuSymKeyBitsTable, tpmuSymModeTable, tpmuPublicParmsTable, tpmuPublicIdTable, tpmuSensitiveCompositeTable, tpmuSignatureTable, tpmuAttestTable, tpmuHaArm, tpmuHaBody, tpmuSigSchemeArm, tpmuSigSchemeBody, tpmuPublicParmsArm, tpmuPublicIdArm, tpmuAttestArm}
-use Rattle.codes.specs.Codes.{null, ecdaa, member, attestations, isAttestation}
+use Rattle.format.specs.Kinds.{digestOf, digestSize, tpmsSchemeHash, tpmuHaTable, tpmuAsymSchemeTable, tpmuSigSchemeTable, tpmuKeyedhashSchemeTable, tpmuKdfSchemeTable, tpmuSymKeyBitsTable, tpmuSymModeTable, tpmuPublicParmsTable, tpmuPublicIdTable, tpmuSensitiveCompositeTable, tpmuSignatureTable, tpmuAttestTable, tpmuCapabilitiesTable, tpmuHaArm, tpmuHaBody, tpmuSigSchemeArm, tpmuSigSchemeBody, tpmuPublicParmsArm, tpmuPublicIdArm, tpmuAttestArm, tpmuCapabilitiesArm}
+use Rattle.codes.specs.Codes.{null, ecdaa, member, attestations, caps, isAttestation, isCap, capPcrProperties}
+use Rattle.codes.proofs.Ranges.{cap-test}
 use Rattle.codes.proofs.Digests.{Agrees, digests-agree, digest-sized}
 use Rattle.codes.proofs.Choices.{Each, chosen-has, chosen-listed, none-listed}
 
@@ -22,7 +26,7 @@ abbrev pub AllAgree : List (List Row) → Type 0
 AllAgree [] = Unit {0}
 AllAgree (rs ∷ rss) = Agrees rs × AllAgree rss
 
--- the twelve tables
+-- the tables
 abbrev pub tables : List (List Row)
 tables =
     tpmuHaTable
@@ -37,10 +41,11 @@ tables =
     ∷ tpmuSensitiveCompositeTable
     ∷ tpmuSignatureTable
     ∷ tpmuAttestTable
+    ∷ tpmuCapabilitiesTable
     ∷ []
 
 pub tables-agree : AllAgree tables
-tables-agree = digests-agree & refl & refl & refl & refl & refl & refl & refl & refl & refl & refl & refl & tt
+tables-agree = digests-agree & refl & refl & refl & refl & refl & refl & refl & refl & refl & refl & refl & refl & tt
 
 -- parameters and unique are chosen alike
 pub id-arm : (v : ℕ) → tpmuPublicIdArm v ≡ tpmuPublicParmsArm v
@@ -78,3 +83,23 @@ attestation-arm v = by (member attestations v) refl
     by : (b : Bool) → member attestations v ≡ b → tpmuAttestArm v ≡ cond b (The v) Nothing
     by true e = sym (chosen-listed The tpmuAttestTable attestations refl v e)
     by false e = sym (none-listed tpmuAttestTable attestations refl v e)
+
+-- the listed capabilities but PcrProperties are those with an arm
+abbrev pub ownArm : ℕ → Choice
+ownArm v = cond (eqb v capPcrProperties) Nothing (The v)
+
+pub capability-arm : (v : ℕ) → isCap v ≡ true → (v ≡ capPcrProperties → ⊥) → The v ≡ tpmuCapabilitiesArm v
+unfolding tpmuCapabilitiesArm isCap caps
+capability-arm v e h = ap (λ b. cond b Nothing (The v)) (sym (ne-eqb v capPcrProperties h)) ∙ chosen-listed ownArm tpmuCapabilitiesTable caps refl v e
+
+pub no-pcr-properties : (v : ℕ) → v ≡ capPcrProperties → Nothing ≡ tpmuCapabilitiesArm v
+unfolding tpmuCapabilitiesArm
+no-pcr-properties v e = rw e
+
+pub no-capability : (v : ℕ) → isCap v ≡ false → Nothing ≡ tpmuCapabilitiesArm v
+unfolding tpmuCapabilitiesArm isCap caps
+no-capability v e = none-listed tpmuCapabilitiesTable caps refl v e
+
+-- and their codes fit in two bytes
+pub capability-small : (v : ℕ) → isCap v ≡ true → v ≤ 10
+capability-small v e = leb-true v 10 (cap-test v ∙ e)

@@ -1,13 +1,14 @@
--- The fourteen kinds of an edition: all layouts made from its lists and tables, line for line as Kinds has them. Layouts with neither a code
+-- The kinds of an edition: all layouts made from its lists and tables, line for line as Kinds has them. Layouts with neither a code
 -- of a list nor a union are those of Kinds. Assumes nothing.
 use Prim.Native.Nat.{ℕ, zero, suc}
 use mathlib.Core.List.{List, [], _∷_, _++_}
 use lib.ListN.{getD}
 use Rattle.wire.specs.Layout.{Rule, listed, Layout, stop, noArm, number, buffer, counted, one, free, _then_}
 use Rattle.wire.specs.Unions.{Row, row, own, armOf, bodyOf, union}
-use Rattle.codes.specs.Codes.{magic, rsa, hmac, aes, mgf1, keyedHash, xor, null, sm4, rsassa, rsaes, rsapss, oaep, ecdsa, ecdh, ecdaa, sm2, ecschnorr, ecmqv, kdf1-sp800-56a, kdf2, kdf1-sp800-108, ecc, symCipher, camellia, attestNv, attestCommandAudit, attestSessionAudit, attestCertify, attestQuote, attestTime, attestCreation, attestNvDigest}
-use Rattle.format.specs.declared.list.ListOf.the-variants.{PcrSelection}
-use Rattle.format.specs.Kinds.{hash, mostItems, tpmuHaTable, tpmuPublicIdTable, tpmuSensitiveCompositeTable, digest, publicKeyRsa, eccParameter, name, qualifying, tpmsClockInfo, tpmsCertifyInfo, tpmsCreationInfo, tpmsSessionAuditInfo, tpmsTimeAttestInfo, tpmsNvCertifyInfo, tpmsNvDigestCertifyInfo}
+use Rattle.codes.specs.Codes.{magic, rsa, hmac, aes, mgf1, keyedHash, xor, null, sm4, rsassa, rsaes, rsapss, oaep, ecdsa, ecdh, ecdaa, sm2, ecschnorr, ecmqv, kdf1-sp800-56a, kdf2, kdf1-sp800-108, ecc, symCipher, camellia, attestNv, attestCommandAudit, attestSessionAudit, attestCertify, attestQuote, attestTime, attestCreation, attestNvDigest, capAlgs, capHandles, capCommands, capPpCommands, capAuditCommands, capPcrs, capTpmProperties, capEccCurves, capAuthPolicies, capAct}
+use Rattle.format.specs.declared.list.ListOf.{ListOf}
+use Rattle.format.specs.declared.list.ListOf.the-variants.{AlgProperty, Handle, Cca, Cc, PcrSelection, TaggedTpmProperty, EccCurve, TaggedPolicy, ActData}
+use Rattle.format.specs.Kinds.{hash, mostItems, tpmuHaTable, tpmuPublicIdTable, tpmuSensitiveCompositeTable, digest, publicKeyRsa, eccParameter, name, qualifying, tpmsClockInfo, tpmsCertifyInfo, tpmsCreationInfo, tpmsSessionAuditInfo, tpmsTimeAttestInfo, tpmsNvCertifyInfo, tpmsNvDigestCertifyInfo, tpmsTaggedProperty, tpmsActData}
 use Rattle.format.specs.Editions.{Edition}
 
 -- the union of a table: what its selector v chooses
@@ -25,6 +26,9 @@ module _ (e : Edition) where
 
   abbrev pub attestationIn : Rule
   attestationIn = listed (λ n. e .isAttestation n)
+
+  abbrev pub capIn : Rule
+  capIn = listed (λ n. e .isCap n)
 
   -- ---- digests, ciphers and schemes: kinds 1 to 8
 
@@ -241,15 +245,41 @@ module _ (e : Edition) where
       digest (
       tpmuSensitiveCompositeIn sensitiveType)))
 
-  -- ---- PCR selections and attestations: kinds 14 and 13
+  -- ---- the lists
 
   -- TPMS_PCR_SELECTION: hash, size and so many bytes of bits
   unfoldable pub tpmsPcrSelectionIn : Layout
   tpmsPcrSelectionIn = number 2 algIn (λ hashAlg. buffer 1 4 stop)
 
+  -- TPMS_ALG_PROPERTY: an algorithm and its attributes
+  unfoldable pub tpmsAlgPropertyIn : Layout
+  tpmsAlgPropertyIn = number 2 algIn (λ algId. one 4 free)
+
+  -- TPMS_TAGGED_POLICY: a handle, and a policy's digest, which is a record of kind 1
+  unfoldable pub tpmsTaggedPolicyIn : Layout
+  tpmsTaggedPolicyIn = number 4 free (λ handle. tpmtHaIn)
+
+  -- the lists, a line each: what an item is. Handles, command attributes and command codes are free numbers in every edition
+  abbrev pub itemLayoutIn : ListOf → Layout
+  itemLayoutIn AlgProperty = tpmsAlgPropertyIn
+  itemLayoutIn Handle = one 4 free
+  itemLayoutIn Cca = one 4 free
+  itemLayoutIn Cc = one 4 free
+  itemLayoutIn PcrSelection = tpmsPcrSelectionIn
+  itemLayoutIn TaggedTpmProperty = tpmsTaggedProperty
+  itemLayoutIn EccCurve = one 2 curveIn
+  itemLayoutIn TaggedPolicy = tpmsTaggedPolicyIn
+  itemLayoutIn ActData = tpmsActData
+
+  -- a list: its count, and so many items
+  abbrev pub tpmlIn : ListOf → Layout
+  tpmlIn which = counted (mostItems which) (itemLayoutIn which) stop
+
+  -- ---- PCR selections and attestations: kinds 14 and 13
+
   -- kind 14, TPML_PCR_SELECTION
   unfoldable pub tpmlPcrSelectionIn : Layout
-  tpmlPcrSelectionIn = counted (mostItems PcrSelection) tpmsPcrSelectionIn stop
+  tpmlPcrSelectionIn = tpmlIn PcrSelection
 
   -- TPMS_QUOTE_INFO: PCR selections, PCR digest
   unfoldable pub tpmsQuoteInfoIn : Layout
@@ -286,13 +316,37 @@ module _ (e : Edition) where
       number 8 free (λ firmwareVersion.
       tpmuAttestIn type)))))
 
+  -- ---- what a TPM says it can do: kind 15
+
+  -- TPMU_CAPABILITIES: a list for each capability; PcrProperties has no arm
+  abbrev pub tpmuCapabilitiesTableIn : List Row
+  tpmuCapabilitiesTableIn =
+      own capAlgs (tpmlIn AlgProperty)
+      ∷ own capHandles (tpmlIn Handle)
+      ∷ own capCommands (tpmlIn Cca)
+      ∷ own capPpCommands (tpmlIn Cc)
+      ∷ own capAuditCommands (tpmlIn Cc)
+      ∷ own capPcrs tpmlPcrSelectionIn
+      ∷ own capTpmProperties (tpmlIn TaggedTpmProperty)
+      ∷ own capEccCurves (tpmlIn EccCurve)
+      ∷ own capAuthPolicies (tpmlIn TaggedPolicy)
+      ∷ own capAct (tpmlIn ActData)
+      ∷ e .tpmuCapabilities
+
+  unfoldable pub tpmuCapabilitiesIn : ℕ → Layout
+  tpmuCapabilitiesIn v = unionOf tpmuCapabilitiesTableIn v
+
+  -- kind 15, TPMS_CAPABILITY_DATA
+  unfoldable pub tpmsCapabilityDataIn : Layout
+  tpmsCapabilityDataIn = number 4 capIn (λ capability. tpmuCapabilitiesIn capability)
+
   -- ---- by number
 
   -- the kinds of the edition from 1 on
   unfoldable pub kindsIn : List Layout
   kindsIn =
       tpmtHaIn ∷ tpmtSymDefIn ∷ tpmtKdfSchemeIn ∷ tpmtKeyedhashSchemeIn ∷ tpmtSigSchemeIn ∷ tpmtAsymSchemeIn ∷ tpmtAsymSchemeIn ∷ tpmtAsymSchemeIn
-      ∷ tpmtPublicParmsIn ∷ tpmtSignatureIn ∷ tpmtPublicIn ∷ tpmtSensitiveIn ∷ tpmsAttestIn ∷ tpmlPcrSelectionIn
+      ∷ tpmtPublicParmsIn ∷ tpmtSignatureIn ∷ tpmtPublicIn ∷ tpmtSensitiveIn ∷ tpmsAttestIn ∷ tpmlPcrSelectionIn ∷ tpmsCapabilityDataIn
       ∷ []
 
   -- the layout of a kind in the edition; no bytes spell a kind that there is not

@@ -11,6 +11,7 @@ pub record Edition : Type 0 where
   pub isAlgorithm : ℕ → Bool
   pub isCurve : ℕ → Bool
   pub isAttestation : ℕ → Bool
+  pub isCap : ℕ → Bool
   pub tpmuHa : List Row
   pub tpmuAsymScheme : List Row
   pub tpmuSigScheme : List Row
@@ -23,6 +24,7 @@ pub record Edition : Type 0 where
   pub tpmuSensitiveComposite : List Row
   pub tpmuSignature : List Row
   pub tpmuAttest : List Row
+  pub tpmuCapabilities : List Row
 
 -- our own edition: our lists, and no further rows
 abbrev pub ours : Edition
@@ -31,6 +33,7 @@ ours =
       isAlgorithm = codes.isAlgorithm;
       isCurve = codes.isCurve;
       isAttestation = codes.isAttestation;
+      isCap = codes.isCap;
       tpmuHa = [];
       tpmuAsymScheme = [];
       tpmuSigScheme = [];
@@ -43,6 +46,7 @@ ours =
       tpmuSensitiveComposite = [];
       tpmuSignature = [];
       tpmuAttest = [];
+      tpmuCapabilities = [];
     }
 
 -- an edition extends ours if it lists every code that we list
@@ -50,3 +54,4 @@ pub record Extends (e : Edition) : Type 0 where
   pub algorithms : (n : ℕ) → codes.isAlgorithm n ≡ true → e .isAlgorithm n ≡ true
   pub curves : (n : ℕ) → codes.isCurve n ≡ true → e .isCurve n ≡ true
   pub attestations : (n : ℕ) → codes.isAttestation n ≡ true → e .isAttestation n ≡ true
+  pub caps : (n : ℕ) → codes.isCap n ≡ true → e .isCap n ≡ true

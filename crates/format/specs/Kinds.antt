@@ -1,4 +1,4 @@
--- The fourteen kinds as layouts: a line a field, in wire order, with Part 2's names; and one table a union. Assumes nothing.
+-- The kinds as layouts: a line a field, in wire order, with Part 2's names; and one table a union. Assumes nothing.
 use Prim.Native.Nat.{ℕ, zero, suc}
 use mathlib.Core.Bool.{Bool, _&&_, cond}
 use mathlib.Core.List.{List, [], _∷_}
@@ -11,10 +11,10 @@ use Rattle.wire.specs.Records.{Parsed, refused}
 use Rattle.wire.specs.Reading.{Reader, read}
 use Rattle.wire.specs.Unions.{Row, row, own, armOf, bodyOf, union}
 use Rattle.format.specs.declared.list.ListOf.{ListOf}
-use Rattle.format.specs.declared.list.ListOf.the-variants.{PcrSelection}
+use Rattle.format.specs.declared.list.ListOf.the-variants.{AlgProperty, Handle, Cca, Cc, PcrSelection, TaggedTpmProperty, EccCurve, TaggedPolicy, ActData}
 pub use Rattle.codes.specs.Digests.{digestOf, digestSize, tpmuHaTable}
 unfoldable pub use Rattle.codes.specs.Digests.{tpmuHaArm}
-use Rattle.codes.specs.Codes.{alg, curve, attestation, yesNo, magic, rsa, hmac, aes, mgf1, keyedHash, xor, null, sm4, rsassa, rsaes, rsapss, oaep, ecdsa, ecdh, ecdaa, sm2, ecschnorr, ecmqv, kdf1-sp800-56a, kdf2, kdf1-sp800-108, ecc, symCipher, camellia, attestNv, attestCommandAudit, attestSessionAudit, attestCertify, attestQuote, attestTime, attestCreation, attestNvDigest}
+use Rattle.codes.specs.Codes.{alg, curve, attestation, cap, yesNo, magic, rsa, hmac, aes, mgf1, keyedHash, xor, null, sm4, rsassa, rsaes, rsapss, oaep, ecdsa, ecdh, ecdaa, sm2, ecschnorr, ecmqv, kdf1-sp800-56a, kdf2, kdf1-sp800-108, ecc, symCipher, camellia, attestNv, attestCommandAudit, attestSessionAudit, attestCertify, attestQuote, attestTime, attestCreation, attestNvDigest, capAlgs, capHandles, capCommands, capPpCommands, capAuditCommands, capPcrs, capTpmProperties, capEccCurves, capAuthPolicies, capAct}
 
 -- ---- limits of the buffers, in bytes
 
@@ -351,22 +351,60 @@ tpmtSensitive =
     digest (
     tpmuSensitiveComposite sensitiveType)))
 
--- ---- PCR selections and attestations: kinds 14 and 13
+-- ---- the lists
 
 -- TPMS_PCR_SELECTION: hash, size and so many bytes of bits
 unfoldable pub tpmsPcrSelection : Layout
 tpmsPcrSelection = number 2 alg (λ hashAlg. buffer 1 4 stop)
 
--- the lists, a line each: what an item is, and how many there are at most
+-- TPMS_ALG_PROPERTY: an algorithm and its attributes
+unfoldable pub tpmsAlgProperty : Layout
+tpmsAlgProperty = number 2 alg (λ algId. one 4 free)
+
+-- TPMS_TAGGED_PROPERTY: a tag, which is any number, and a value
+unfoldable pub tpmsTaggedProperty : Layout
+tpmsTaggedProperty = number 4 free (λ property. one 4 free)
+
+-- TPMS_TAGGED_POLICY: a handle, and a policy's digest, which is a record of kind 1
+unfoldable pub tpmsTaggedPolicy : Layout
+tpmsTaggedPolicy = number 4 free (λ handle. tpmtHa)
+
+-- TPMS_ACT_DATA: a handle, a timeout and attributes
+unfoldable pub tpmsActData : Layout
+tpmsActData = number 4 free (λ handle. number 4 free (λ timeout. one 4 free))
+
+-- the lists, a line each: what an item is, and how many there are at most. Handles, command attributes and command codes are free numbers
 abbrev pub itemLayout : ListOf → Layout
+itemLayout AlgProperty = tpmsAlgProperty
+itemLayout Handle = one 4 free
+itemLayout Cca = one 4 free
+itemLayout Cc = one 4 free
 itemLayout PcrSelection = tpmsPcrSelection
+itemLayout TaggedTpmProperty = tpmsTaggedProperty
+itemLayout EccCurve = one 2 curve
+itemLayout TaggedPolicy = tpmsTaggedPolicy
+itemLayout ActData = tpmsActData
 
 abbrev pub mostItems : ListOf → ℕ
+mostItems AlgProperty = 128
+mostItems Handle = 128
+mostItems Cca = 128
+mostItems Cc = 128
 mostItems PcrSelection = 16
+mostItems TaggedTpmProperty = 128
+mostItems EccCurve = 128
+mostItems TaggedPolicy = 16
+mostItems ActData = 16
+
+-- a list: its count, and so many items
+abbrev pub tpml : ListOf → Layout
+tpml which = counted (mostItems which) (itemLayout which) stop
+
+-- ---- PCR selections and attestations: kinds 14 and 13
 
 -- kind 14, TPML_PCR_SELECTION
 unfoldable pub tpmlPcrSelection : Layout
-tpmlPcrSelection = counted (mostItems PcrSelection) (itemLayout PcrSelection) stop
+tpmlPcrSelection = tpml PcrSelection
 
 -- TPMS_CLOCK_INFO
 unfoldable pub tpmsClockInfo : Layout
@@ -445,13 +483,43 @@ tpmsAttest =
     number 8 free (λ firmwareVersion.
     tpmuAttest type)))))
 
+-- ---- what a TPM says it can do: kind 15
+
+-- TPMU_CAPABILITIES: a list for each capability; PcrProperties has no arm
+abbrev pub tpmuCapabilitiesTable : List Row
+tpmuCapabilitiesTable =
+    own capAlgs (tpml AlgProperty)
+    ∷ own capHandles (tpml Handle)
+    ∷ own capCommands (tpml Cca)
+    ∷ own capPpCommands (tpml Cc)
+    ∷ own capAuditCommands (tpml Cc)
+    ∷ own capPcrs tpmlPcrSelection
+    ∷ own capTpmProperties (tpml TaggedTpmProperty)
+    ∷ own capEccCurves (tpml EccCurve)
+    ∷ own capAuthPolicies (tpml TaggedPolicy)
+    ∷ own capAct (tpml ActData)
+    ∷ []
+
+unfoldable pub tpmuCapabilitiesArm : ℕ → Choice
+tpmuCapabilitiesArm v = armOf tpmuCapabilitiesTable v
+
+abbrev pub tpmuCapabilitiesBody : ℕ → Layout
+tpmuCapabilitiesBody t = bodyOf tpmuCapabilitiesTable t
+
+unfoldable pub tpmuCapabilities : ℕ → Layout
+tpmuCapabilities v = union (tpmuCapabilitiesArm v) tpmuCapabilitiesBody v
+
+-- kind 15, TPMS_CAPABILITY_DATA
+unfoldable pub tpmsCapabilityData : Layout
+tpmsCapabilityData = number 4 cap (λ capability. tpmuCapabilities capability)
+
 -- ---- by number
 
 -- the kinds from 1 on; 0 is none
 unfoldable pub kinds : List Layout
 kinds =
     tpmtHa ∷ tpmtSymDef ∷ tpmtKdfScheme ∷ tpmtKeyedhashScheme ∷ tpmtSigScheme ∷ tpmtAsymScheme ∷ tpmtAsymScheme ∷ tpmtAsymScheme
-    ∷ tpmtPublicParms ∷ tpmtSignature ∷ tpmtPublic ∷ tpmtSensitive ∷ tpmsAttest ∷ tpmlPcrSelection
+    ∷ tpmtPublicParms ∷ tpmtSignature ∷ tpmtPublic ∷ tpmtSensitive ∷ tpmsAttest ∷ tpmlPcrSelection ∷ tpmsCapabilityData
     ∷ []
 
 -- the numbers of the kinds

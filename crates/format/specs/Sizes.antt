@@ -4,9 +4,9 @@ use mathlib.Core.List.{List, [], _∷_}
 use Rattle.wire.specs.Layout.{Layout}
 use Rattle.wire.specs.Sizes.{Greatest}
 
--- the greatest sizes in bytes, kinds 1 to 14
+-- the greatest sizes in bytes, from kind 1 on
 unfoldable pub greatest : List ℕ
-greatest = 66 ∷ 6 ∷ 4 ∷ 6 ∷ 6 ∷ 6 ∷ 6 ∷ 6 ∷ 20 ∷ 518 ∷ 606 ∷ 392 ∷ 2287 ∷ 116 ∷ []
+greatest = 66 ∷ 6 ∷ 4 ∷ 6 ∷ 6 ∷ 6 ∷ 6 ∷ 6 ∷ 20 ∷ 518 ∷ 606 ∷ 392 ∷ 2287 ∷ 116 ∷ 1128 ∷ []
 
 -- there are as many sizes as layouts, and each is the greatest of its layout
 abbrev pub AllGreatest : List Layout → List ℕ → Type 0

@@ -2,11 +2,12 @@
 // The numbers of the arms are those of the tables.
 use codes::DigestLen;
 use codes::TpmAlgId;
+use codes::TpmCap;
 use codes::TpmSt;
 use codes::registry;
 use wire::choice::Choice;
 ghost use mathlib.Core.Path.{_≡_};
-ghost use Rattle.format.specs.Kinds.{tpmuHaArm, tpmuAsymSchemeArm, tpmuSigSchemeArm, tpmuKeyedhashSchemeArm, tpmuKdfSchemeArm, tpmuSymKeyBitsArm, tpmuSymModeArm, tpmuPublicParmsArm, tpmuPublicIdArm, tpmuSensitiveCompositeArm, tpmuSignatureArm, tpmuAttestArm};
+ghost use Rattle.format.specs.Kinds.{tpmuHaArm, tpmuAsymSchemeArm, tpmuSigSchemeArm, tpmuKeyedhashSchemeArm, tpmuKdfSchemeArm, tpmuSymKeyBitsArm, tpmuSymModeArm, tpmuPublicParmsArm, tpmuPublicIdArm, tpmuSensitiveCompositeArm, tpmuSignatureArm, tpmuAttestArm, tpmuCapabilitiesArm};
 
 // The arm of a hash code that several schemes choose.
 pub const HASH: u16 = 1;
@@ -163,4 +164,16 @@ pub fn attest_arm(tag: TpmSt) -> Choice
     } else {
         Choice::Nothing
     }
+}
+
+pub fn capabilities_arm(tag: TpmCap) -> Choice
+    ensures { λ r. ⌜ r ≡ tpmuCapabilitiesArm (tag .0) ⌝ }
+{
+    let c = tag.0;
+    if tag.is_listed() {
+        if c != registry::CAP_PCR_PROPERTIES {
+            return Choice::The(c as u16);
+        }
+    }
+    Choice::Nothing
 }

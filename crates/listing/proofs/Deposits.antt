@@ -77,7 +77,7 @@ unfolding recordText
 refused-listed k bs e = ap (λ a. answerText k bs a) (sym e)
 
 -- a text that is put at the start
-started : {text other old last : List ℕ} {r m : ℕ} → text ≡ other → m ≡ length text → length text ≤ 8192 → (length text ≤ length old → Puts 0 text old r last) → Counts other old m last
+started : {text other old last : List ℕ} {r m : ℕ} → text ≡ other → m ≡ length text → length text ≤ 16384 → (length text ≤ length old → Puts 0 text old r last) → Counts other old m last
 started {text} {other} {old} {last} {m = m} same size most put =
     subst (λ t. Counts t old m last) same (record {
       size = size;
@@ -186,7 +186,7 @@ listed {text} {old} room p =
       most = p .most;
     }
 
-pub not-listed : {text old : List ℕ} {n : ℕ} {f : Refusal} → f ≡ noRoom 0 n → (n ≡ length text) × (n ≤ 8192) → length old < n → Lists text old (Measure.No f) old
+pub not-listed : {text old : List ℕ} {n : ℕ} {f : Refusal} → f ≡ noRoom 0 n → (n ≡ length text) × (n ≤ 16384) → length old < n → Lists text old (Measure.No f) old
 not-listed {text} {old} e (size, most) small =
     let short = lt-leb (length text) (length old) (omega arith) in
     record {

@@ -41,8 +41,8 @@ module _ {text old last : List ℕ} {r : Measure} (lists : Lists text old r last
       let enough = le-leb (length text) (length old) room in
       (measure-answer-once _ _ (lists .answer ∙ rw enough), lists .buffer ∙ rw enough)
 
-  -- as it does wherever 8,192 bytes are lent
-  pub every-listing-fits : 8192 ≤ length old → length text ≤ length old
+  -- as it does wherever 16,384 bytes are lent
+  pub every-listing-fits : 16384 ≤ length old → length text ≤ length old
   every-listing-fits room = omega (arith, lists .most)
 
   -- where it does not fit nothing is changed, and the room that it needs is answered

@@ -48,11 +48,11 @@ abbrev pub isFound : {A : Type 0} → Ans A → Bool
 isFound (found a) = true
 isFound (refused f) = false
 
--- a text was counted, r bytes, and none has more than 8,192; if it fits into a slice, which held old before and holds last now, it stands
+-- a text was counted, r bytes, and none has more than 16,384; if it fits into a slice, which held old before and holds last now, it stands
 -- at its start. Nothing is said of a slice that is too small
 pub record Counts (text old : List ℕ) (r : ℕ) (last : List ℕ) : Type 0 where
   pub size : r ≡ length text
-  pub most : length text ≤ 8192
+  pub most : length text ≤ 16384
   pub puts : length text ≤ length old → last ≡ text ++ drop (length text) old
 
 -- What is owed to whoever has a text listed into a lent slice, which held old before and holds last now; r was answered
@@ -62,4 +62,4 @@ pub record Lists (text old : List ℕ) (r : Measure) (last : List ℕ) : Type 0 
   -- the text and then what was there, or all that was there
   pub buffer : last ≡ cond (leb (length text) (length old)) (text ++ drop (length text) old) old
   -- none is longer
-  pub most : length text ≤ 8192
+  pub most : length text ≤ 16384

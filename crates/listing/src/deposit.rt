@@ -19,7 +19,7 @@ ghost use Rattle.format.specs.Kinds.{isKind};
 ghost use Rattle.listing.specs.Listing.{judged, recordText, listing, answered, isFound, Counts, Lists};
 
 // A slice of so many bytes has room for every listing.
-pub const LISTING_ROOM: usize = 8192;
+pub const LISTING_ROOM: usize = 16384;
 
 // What is refused of a record of more than 4,096 bytes: its kind, if there is none of that number, and else its size.
 fn refused_unread(kind: u8) -> Refusal
@@ -58,7 +58,7 @@ fn put_record(kind: u8, bytes: &[u8], out: &mut [u8]) -> usize
 
 // How long that is.
 fn record_size(kind: u8, bytes: &[u8]) -> usize
-    ensures { λ r. ⌜ (r ≡ length (recordText kind (now (bytes .entry)))) × (r ≤ 8192) ⌝ }
+    ensures { λ r. ⌜ (r ≡ length (recordText kind (now (bytes .entry)))) × (r ≤ 16384) ⌝ }
 {
     let mut nowhere = [0u8; 1];
     put_record(kind, bytes, &mut nowhere)

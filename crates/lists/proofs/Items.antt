@@ -32,7 +32,8 @@ use Rattle.steps.specs.Walks.{after, seekAnswer, seekStart}
 use Rattle.steps.proofs.Found.{found-seen, none-seen}
 use Rattle.lists.specs.declared.item.Place.{Place}
 use Rattle.lists.specs.Items.{itemAnswer, itemFrom, ItemInside, ItemBehind}
-use Rattle.lists.proofs.Lists.{IsList, item-ends}
+use Rattle.items.proofs.Items.{item-ends}
+use Rattle.lists.proofs.Lists.{IsList}
 
 -- ---- the walk
 

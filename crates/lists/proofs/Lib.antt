@@ -1,3 +1,2 @@
 pub mod Lists
 pub mod Items
-pub mod Once

@@ -28,11 +28,8 @@ use Rattle.wire.proofs.Stand.{stands-left, stands-bytes}
 use Rattle.wire.proofs.Steps.{found-refused, found-same, parsed-same, next-found, when-found, field-found}
 use Rattle.wire.proofs.Then.{whole-same}
 use Rattle.wire.proofs.Written.{moved-found, cut-found}
-use Rattle.codes.specs.Codes.{alg}
 use Rattle.format.specs.declared.list.ListOf.{ListOf}
-use Rattle.format.specs.declared.list.ListOf.the-variants.{PcrSelection}
-use Rattle.format.specs.Kinds.{tpmsPcrSelection, itemLayout, mostItems}
-use Rattle.format.proofs.Lists.{item-some}
+use Rattle.format.specs.Kinds.{itemLayout, mostItems}
 use Rattle.steps.specs.declared.walk.Walk.{Walk}
 use Rattle.steps.specs.Steps.{Items, spellStep, leftLines, stepLines}
 use Rattle.steps.specs.Near.{Near}
@@ -41,9 +38,7 @@ use Rattle.steps.proofs.Judged.{sized-length}
 use Rattle.steps.proofs.Leaves.{step-judged, step-far, step-put, step-line, step-list, step-sought}
 use Rattle.steps.proofs.Lined.{putLines-append, lines-far, lines-good, lines-bad}
 use Rattle.steps.proofs.Reach.{list-near, ends-list}
-use Rattle.lists.specs.declared.list.TpmsPcrSelection.{TpmsPcrSelection}
-use Rattle.lists.specs.declared.list.TpmsPcrSelectionRead.{TpmsPcrSelectionRead}
-use Rattle.lists.specs.Items.{tpmsPcrSelectionParts, tpmsPcrSelectionAnswer, ItemLined}
+use Rattle.items.specs.Items.{ItemLined}
 
 -- ---- one item behind the other
 
@@ -71,82 +66,6 @@ module _ (item : Reader Parsed) (src : List ℕ) where
     pub walk-done : n ≤ i → found at ≡ walk item (n - i) src at
     walk-done h = let none : n - i ≡ 0 = omega arith in rw none
 
--- ---- a line a list: what is read of an item, where it ends, and its lines
-
-pub selection-end : (which : ListOf) {a b : TpmsPcrSelectionRead} {z : Ans ℕ} (src : List ℕ) (at : ℕ) → a ≡ b → tpmsPcrSelectionAnswer a ≡ read tpmsPcrSelection src at → z ≡ endOf (tpmsPcrSelectionAnswer b)
-    → z ≡ endOf (read (itemLayout which) src at)
-selection-end PcrSelection src at q p s = s ∙ ap endOf (told tpmsPcrSelectionAnswer q p)
-
--- the bits of a selection follow its bank and their size, and end it
-selection-shape : (xs : List ℕ) (at : ℕ) {ps : List Part} {e : ℕ} → Bytes xs → parsed ps e ≡ read tpmsPcrSelection xs at
-    → (n : ℕ) × (m : ℕ) × (ps ≡ num n ∷ span (at + 2 + 1) m ∷ []) × (e ≡ at + 2 + 1 + m) × (m ≤ 4)
-unfolding read tpmsPcrSelection
-selection-shape xs at b p =
-    let (n, a, q) = next-found (field 2 alg xs at) _ (sym p) in
-    let (r, l, s) = next-found (next (field 1 (lengthTo 4) xs (at + 2)) _) _ q in
-    let (m, d, f) = next-found (field 1 (lengthTo 4) xs (at + 2)) _ l in
-    let (ys, g, h) = next-found (piece m xs (at + 2 + 1)) _ f in
-    let inner = found-same h in
-    let (parts, stops) = parsed-same (sym s) in
-    (n, m, parts ∙ ap (λ z. num n ∷ z .parts) (sym inner), stops ∙ ap (λ z. z .stops) (sym inner), leb-true m 4 (field-found 1 (lengthTo 4) xs (at + 2) b d .1))
-
-abbrev second-start : List Part → ℕ
-second-start [] = 0
-second-start (p ∷ []) = 0
-second-start (p ∷ num n ∷ ps) = 0
-second-start (p ∷ tag t ∷ ps) = 0
-second-start (p ∷ span start len ∷ ps) = start
-
-abbrev second-len : List Part → ℕ
-second-len [] = 0
-second-len (p ∷ []) = 0
-second-len (p ∷ num n ∷ ps) = 0
-second-len (p ∷ tag t ∷ ps) = 0
-second-len (p ∷ span start len ∷ ps) = len
-
--- an item ends behind its start, and in the list
-pub item-ends : (which : ListOf) (src : List ℕ) (at : ℕ) {e : ℕ} → Bytes src → found e ≡ endOf (read (itemLayout which) src at) → (at ≤ e) × (e ≤ length src)
-item-ends which src at b p =
-    let (r, q, s) = next-found (read (itemLayout which) src at) _ (sym p) in
-    let d = read-sound (itemLayout which) src at r b q in
-    omega (arith, found-same s, d .ends, item-some which (d .spells), stands-left (d .stands))
-
--- and so do its bits
-pub selection-fits : (x : TpmsPcrSelection) (a : TpmsPcrSelectionRead) (xs : List ℕ) (at : ℕ) {e : ℕ} → Bytes xs → a ≡ TpmsPcrSelectionRead.Found x e → tpmsPcrSelectionAnswer a ≡ read tpmsPcrSelection xs at
-    → (lenOf (x .«pcr_select») ≤ 0x10001) × (startOf (x .«pcr_select») + lenOf (x .«pcr_select») ≤ length xs)
-selection-fits x a xs at b q p =
-    let was = told tpmsPcrSelectionAnswer q p in
-    let (n, m, parts, stops, few) = selection-shape xs at b was in
-    let start : startOf (x .«pcr_select») ≡ at + 2 + 1 = ap second-start parts in
-    let len : lenOf (x .«pcr_select») ≡ m = ap second-len parts in
-    omega (arith, item-ends PcrSelection xs at b (ap endOf was))
-
-pub selection-lines : (x : TpmsPcrSelection) (xs : List ℕ) (place m n : ℕ) (h i j k : Here) → m ≡ x .hash .0 → i ≡ putLine (line place 2 (aCode m)) h → n ≡ lenOf (x .«pcr_select») → j ≡ putLine (line (place + 2) 1 (aNumber n)) i
-    → k ≡ putLine (spanLine (place + 3) (startOf (x .«pcr_select»)) (lenOf (x .«pcr_select»)) xs) j
-    → k ≡ putLines (lines tpmsPcrSelection (tpmsPcrSelectionParts x) xs place) h
-unfolding lines putLines tpmsPcrSelection
-selection-lines x xs place m n h i j k code p size q s =
-    let t = x .«pcr_select» in
-    let there : place + 3 ≡ place + 2 + 1 = omega arith in
-    s ∙ ap (λ e. putLine (spanLine e (startOf t) (lenOf t) xs) j) there
-    ∙ ap (λ z. putLine (spanLine (place + 2 + 1) (startOf t) (lenOf t) xs) z)
-    (q ∙ ap (λ l. putLine (line (place + 2) 1 (aNumber l)) i) size ∙ ap (λ z. putLine (line (place + 2) 1 (aNumber (lenOf t))) z) (p ∙ ap (λ l. putLine (line place 2 (aCode l)) h) code))
-
-pub selection-lined : (which : ListOf) (xs : List ℕ) (at place : ℕ) (h k : Here) {a : TpmsPcrSelectionRead} {x : TpmsPcrSelection} {e : ℕ} → a ≡ TpmsPcrSelectionRead.Found x e → tpmsPcrSelectionAnswer a ≡ read tpmsPcrSelection xs at
-    → k ≡ putLines (lines tpmsPcrSelection (tpmsPcrSelectionParts x) xs (place + at)) h → ItemLined which xs at place h k e
-selection-lined PcrSelection xs at place h k q p put =
-    let was = told tpmsPcrSelectionAnswer q p in
-    record {
-      puts = λ s. put ∙ ap (λ r. putLines (lines tpmsPcrSelection (r .parts) xs (place + at)) h) (found-same (was ∙ s));
-      ends = λ s. ap (λ r. r .stops) (found-same (was ∙ s));
-    }
-
-pub selection-unlined : (which : ListOf) (xs : List ℕ) (at place : ℕ) (h k : Here) (e : ℕ) {a : TpmsPcrSelectionRead} {f : Refusal} → a ≡ TpmsPcrSelectionRead.No f → tpmsPcrSelectionAnswer a ≡ read tpmsPcrSelection xs at
-    → ItemLined which xs at place h k e
-selection-unlined PcrSelection xs at place h k e q p =
-    let was = told tpmsPcrSelectionAnswer q p in
-    record { puts = λ s. absurd (found-refused (was ∙ s)); ends = λ s. absurd (found-refused (was ∙ s)) }
-
 -- ---- the lines of items
 
 -- how far a walk over items goes
@@ -162,7 +81,7 @@ pub record Left (which : ListOf) (n : ℕ) (xs : List ℕ) (at place : ℕ) (h z
   pub puts : z ≡ putLines (leftLines which n xs at place) h
 
 module _ (which : ListOf) (xs : List ℕ) (place : ℕ) where
-  left-next : (n at : ℕ) {f : ℕ} {h k z : Here} → ItemLined which xs at place h k f → Left which (suc n) xs at place h z → Left which n xs f place k z
+  left-next : (n at : ℕ) {f : ℕ} {h k z : Here} → ItemLined (itemLayout which) xs at place h k f → Left which (suc n) xs at place h z → Left which n xs f place k z
   left-next n at {f} {h} {k} lined w =
       let (r, q, s) = next-found (read (itemLayout which) xs at) _ (w .legal) in
       let stops : f ≡ r .stops = lined .ends q in
@@ -175,7 +94,7 @@ module _ (which : ListOf) (xs : List ℕ) (place : ℕ) where
       }
 
   module _ (n i at : ℕ) {h z : Here} where
-    pub left-on : {f : ℕ} {k : Here} → i < n → ItemLined which xs at place h k f → Left which (n - i) xs at place h z → Left which (n - (i + 1)) xs f place k z
+    pub left-on : {f : ℕ} {k : Here} → i < n → ItemLined (itemLayout which) xs at place h k f → Left which (n - i) xs at place h z → Left which (n - (i + 1)) xs f place k z
     left-on less lined w = let more : n - i ≡ suc (n - (i + 1)) = omega arith in left-next (n - (i + 1)) at lined (rw more at w)
 
     pub left-none : n ≤ i → Left which (n - i) xs at place h z → h ≡ z

@@ -1,33 +1,16 @@
--- The items of lists as the code has them. Assumes nothing.
+-- The items of a list by their index, as the code has them. Assumes nothing.
 use Prim.Native.Nat.{ℕ, _+_, _≤_}
 use mathlib.Core.Path.{_≡_}
-use mathlib.Core.List.{List, [], _∷_}
+use mathlib.Core.List.{List}
 use lib.ListN.{length}
-use Rattle.wire.specs.Answers.{startOf, lenOf, spanPart}
-use Rattle.wire.specs.Lines.{lines}
-use Rattle.wire.specs.Records.{Part, num, Ans, found, refused, Parsed, parsed}
+use Rattle.wire.specs.Answers.{startOf, lenOf}
+use Rattle.wire.specs.Records.{Ans, found, refused}
 use Rattle.wire.specs.Reading.{walk, read}
 use Rattle.wire.specs.Writing.{cut}
 use Rattle.wire.specs.Places.{startIf}
 use Rattle.format.specs.declared.list.ListOf.{ListOf}
 use Rattle.format.specs.Kinds.{itemLayout}
-use Rattle.steps.specs.Walks.{Here, putLines}
-use Rattle.lists.specs.declared.list.TpmsPcrSelection.{TpmsPcrSelection}
-use Rattle.lists.specs.declared.list.TpmsPcrSelectionRead.{TpmsPcrSelectionRead}
 use Rattle.lists.specs.declared.item.Place.{Place}
-
--- an item of the PCR selection list
-abbrev pub tpmsPcrSelectionParts : TpmsPcrSelection → List Part
-tpmsPcrSelectionParts p = num (p .hash .0) ∷ spanPart (p .«pcr_select») ∷ []
-
-abbrev pub tpmsPcrSelectionAnswer : TpmsPcrSelectionRead → Ans Parsed
-tpmsPcrSelectionAnswer (TpmsPcrSelectionRead.Found x e) = parsed (tpmsPcrSelectionParts x) e
-tpmsPcrSelectionAnswer (TpmsPcrSelectionRead.No f) = refused f
-
--- from a to b the lines of the item of xs at the place e are put, if there is one, and f is where it ends; the list stands at the place `at`
-pub record ItemLined (i : ListOf) (xs : List ℕ) (e at : ℕ) (a b : Here) (f : ℕ) : Type 0 where
-  pub puts : {r : Parsed} → read (itemLayout i) xs e ≡ found r → b ≡ putLines (lines (itemLayout i) (r .parts) xs (at + e)) a
-  pub ends : {r : Parsed} → read (itemLayout i) xs e ≡ found r → f ≡ r .stops
 
 -- the bytes of the item at a place, or why there is none
 abbrev pub itemAnswer : Place → List ℕ → Ans (List ℕ)

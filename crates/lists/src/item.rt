@@ -1,11 +1,11 @@
 // List items, by index.
-use crate::list::item_end;
 use crate::list::items_end;
 use crate::list::judge_list;
 use codes::uint::Uint32Read;
 use codes::uint::uint32;
 use faults::Refusal;
 use format::list::ListOf;
+use items::end::item_end;
 use steps::walk::FOUND;
 use steps::walk::Walk;
 use wire::measure::Measure;

@@ -1,10 +1,10 @@
-// Lists: a count, and so many items. Every list is a row of the format's table; what an item of each is stands here.
-use codes::TpmAlgId;
-use codes::TpmAlgIdRead;
+// Lists: a count, and so many items. Every list is a row of the format's table; what an item of each is stands in the crate items.
 use codes::uint::Uint32Read;
 use codes::uint::uint32;
 use faults::Refusal;
 use format::list::ListOf;
+use items::end::item_end;
+use items::lines::item_lines;
 use steps::span::judged;
 use steps::span::put_part;
 use steps::walk::FAR;
@@ -18,86 +18,20 @@ use steps::walk::putting;
 use steps::walk::refusing;
 use text::line::Word;
 use wire::measure::Measure;
-use wire::read::SpanRead;
-use wire::read::buffer;
 use wire::span::Span;
-use wire::widen::wide;
 use wire::widen::wider;
 use wire::width::Width;
 ghost use mathlib.Core.Path.{_≡_};
 ghost use mathlib.Core.List.{_∷_, []};
-ghost use Prim.Native.Nat.{_+_, _≤_};
+ghost use Prim.Native.Nat.{_≤_};
 ghost use lib.ListN.{length};
-ghost use Rattle.wire.specs.Answers.{startOf, lenOf, measureAnswer};
-ghost use Rattle.wire.specs.Lines.{lines};
+ghost use Rattle.wire.specs.Answers.{measureAnswer};
 ghost use Rattle.wire.specs.Records.{found};
-ghost use Rattle.wire.specs.Reading.{read, walk, list, endOf};
-ghost use Rattle.format.specs.Kinds.{tpmsPcrSelection, itemLayout, mostItems};
+ghost use Rattle.wire.specs.Reading.{read, walk, list};
+ghost use Rattle.format.specs.Kinds.{itemLayout, mostItems};
 ghost use Rattle.steps.specs.Steps.{Items, spellStep, leftLines};
 ghost use Rattle.steps.specs.Walks.{here, after, putLines, lineStep, Goes};
 ghost use Rattle.steps.specs.Near.{Near};
-ghost use Rattle.lists.specs.Items.{tpmsPcrSelectionParts, tpmsPcrSelectionAnswer, ItemLined};
-
-// An item of the PCR selection list: a bank, and the bits of its registers.
-pub struct TpmsPcrSelection {
-    pub hash: TpmAlgId,
-    pub pcr_select: Span,
-}
-
-pub enum TpmsPcrSelectionRead {
-    Found(TpmsPcrSelection, usize),
-    No(Refusal),
-}
-
-impl TpmsPcrSelection {
-    // TPMS_PCR_SELECTION, read.
-    pub fn unmarshal(s: &[u8], at: usize) -> TpmsPcrSelectionRead
-        ensures { λ r. ⌜ tpmsPcrSelectionAnswer r ≡ read tpmsPcrSelection (now (s .entry)) at ⌝ }
-    {
-        let mut end = at;
-        let hash = match TpmAlgId::unmarshal(s, end) {
-            TpmAlgIdRead::Found(v, e) => {
-                end = e;
-                v
-            }
-            TpmAlgIdRead::No(f) => return TpmsPcrSelectionRead::No(f),
-        };
-        let pcr_select = match buffer(s, end, Width::One, 4) {
-            SpanRead::Found(v, e) => {
-                end = e;
-                v
-            }
-            SpanRead::No(f) => return TpmsPcrSelectionRead::No(f),
-        };
-        TpmsPcrSelectionRead::Found(Self { hash, pcr_select }, end)
-    }
-
-    // Its lines, where it stands at `place`.
-    fn lines(self, w: Walk, xs: &[u8], place: usize, out: &mut [u8]) -> Walk
-        requires { ⌜ (place ≤ 0x1000000) × (lenOf (self .«pcr_select») ≤ 0x10001) × (startOf (self .«pcr_select») + lenOf (self .«pcr_select») ≤ length (now xs)) ⌝ }
-        ensures { λ r. ⌜ here r (now (out .exit)) ≡ putLines (lines tpmsPcrSelection (tpmsPcrSelectionParts self) (now (xs .entry)) place) (here w (now (out .entry))) ⌝ }
-    {
-        let hash = self.hash;
-        let bits = self.pcr_select;
-        let size = place + 2;
-        let body = place + 3;
-        let v = w.number_line(place, Word::Code, Width::Two, wide(hash.0), out);
-        let u = v.number_line(size, Word::Number, Width::One, bits.len() as u64, out);
-        u.bytes_line(body, bits, xs, out)
-    }
-}
-
-// Where the item that stands at `at` ends.
-pub(crate) fn item_end(which: ListOf, s: &[u8], at: usize) -> Measure
-    ensures { λ r. ⌜ measureAnswer r ≡ endOf (read (itemLayout which) (now (s .entry)) at) ⌝ }
-{
-    match which {
-        ListOf::PcrSelection => match TpmsPcrSelection::unmarshal(s, at) {
-            TpmsPcrSelectionRead::Found(_, e) => Measure::Size(e),
-            TpmsPcrSelectionRead::No(f) => Measure::No(f),
-        },
-    }
-}
 
 // Where `count` items from `at` on end. The walk stops at the first that is not one.
 pub(crate) fn items_end(which: ListOf, s: &[u8], at: usize, count: u32) -> Measure
@@ -134,6 +68,17 @@ pub fn list_end(which: ListOf, s: &[u8], at: usize) -> Measure
     }
 }
 
+// Where the list of all of xs ends. Selections are asked for by name: then that reader is put in place, and a quote is measured and written as fast
+// as where there is no other list.
+fn end_in(which: ListOf, xs: &[u8]) -> Measure
+    ensures { λ r. ⌜ measureAnswer r ≡ list (mostItems which) (λ s a. read (itemLayout which) s a) (now (xs .entry)) 0 ⌝ }
+{
+    match which {
+        ListOf::PcrSelection => list_end(ListOf::PcrSelection, xs, 0),
+        _ => list_end(which, xs, 0),
+    }
+}
+
 // The place behind a list at `at`, or what is wrong with it. It is walked over with the reading rules.
 pub(crate) fn judge_list(which: ListOf, span: Span, src: &[u8], at: usize) -> Measure
     requires { ⌜ at ≤ 0x1000000 ⌝ }
@@ -141,7 +86,7 @@ pub(crate) fn judge_list(which: ListOf, span: Span, src: &[u8], at: usize) -> Me
 {
     match span.measure(src, at) {
         Measure::Size(len) => {
-            match list_end(which, span.part(src), 0) {
+            match end_in(which, span.part(src)) {
                 Measure::Size(e) => {
                     let end = at + e;
                     if e == len {
@@ -157,38 +102,6 @@ pub(crate) fn judge_list(which: ListOf, span: Span, src: &[u8], at: usize) -> Me
             }
         }
         Measure::No(f) => Measure::No(f),
-    }
-}
-
-// What the lines of an item leave: the walk, and where the next item stands.
-pub(crate) struct ItemLines {
-    pub walk: Walk,
-    pub end: usize,
-}
-
-// The lines of the item of xs that stands at `at`; the list stands at `place`.
-fn item_lines(
-    which: ListOf,
-    w: Walk,
-    xs: &[u8],
-    at: usize,
-    place: usize,
-    out: &mut [u8],
-) -> ItemLines
-    requires { ⌜ (place ≤ 0x10000) × (at ≤ 0x10000) ⌝ }
-    ensures { λ r. ⌜ ItemLined which (now (xs .entry)) at place (here w (now (out .entry))) (here (r .walk) (now (out .exit))) (r .end) ⌝ }
-{
-    match which {
-        ListOf::PcrSelection => match TpmsPcrSelection::unmarshal(xs, at) {
-            TpmsPcrSelectionRead::Found(x, e) => {
-                let v = x.lines(w, xs, place + at, out);
-                ItemLines { walk: v, end: e }
-            }
-            TpmsPcrSelectionRead::No(f) => ItemLines {
-                walk: refusing(f),
-                end: at,
-            },
-        },
     }
 }
 

@@ -1,6 +1,7 @@
 // A record of any kind by the kind's number, for callers that only need to know where it ends.
 use crate::read::tpml_pcr_selection_read;
 use crate::read::tpms_attest_read;
+use crate::read::tpms_capability_data_read;
 use crate::read::tpmt_ecc_scheme_read;
 use crate::read::tpmt_ha_read;
 use crate::read::tpmt_kdf_scheme_read;
@@ -15,6 +16,7 @@ use crate::read::tpmt_signature_read;
 use crate::read::tpmt_sym_def_read;
 use attest::attestation::TpmsAttestRead;
 use attest::list::TpmlPcrSelectionRead;
+use capabilities::tpms::TpmsCapabilityDataRead;
 use ciphers::tpmt::TpmtHaRead;
 use ciphers::tpmt::TpmtSymDefRead;
 use faults::Refusal;
@@ -33,7 +35,7 @@ use wire::widen::wide_byte;
 ghost use mathlib.Core.Path.{_≡_};
 ghost use Rattle.wire.specs.Answers.{measureAnswer};
 ghost use Rattle.wire.specs.Reading.{read, endOf};
-ghost use Rattle.format.specs.Kinds.{tpmtHa, tpmtSymDef, tpmtKdfScheme, tpmtKeyedhashScheme, tpmtSigScheme, tpmtAsymScheme, tpmtPublicParms, tpmtSignature, tpmtPublic, tpmtSensitive, tpmsAttest, tpmlPcrSelection, readKind};
+ghost use Rattle.format.specs.Kinds.{tpmtHa, tpmtSymDef, tpmtKdfScheme, tpmtKeyedhashScheme, tpmtSigScheme, tpmtAsymScheme, tpmtPublicParms, tpmtSignature, tpmtPublic, tpmtSensitive, tpmsAttest, tpmlPcrSelection, tpmsCapabilityData, readKind};
 ghost use Rattle.records.specs.Ends.{Ends};
 
 fn tpmt_ha_end(s: &[u8], at: usize) -> Measure
@@ -162,6 +164,15 @@ fn tpml_pcr_selection_end(s: &[u8], at: usize) -> Measure
     }
 }
 
+fn tpms_capability_data_end(s: &[u8], at: usize) -> Measure
+    ensures { λ r. ⌜ measureAnswer r ≡ endOf (read tpmsCapabilityData (now (s .entry)) at) ⌝ }
+{
+    match tpms_capability_data_read(s, at) {
+        TpmsCapabilityDataRead::Found(_, e) => Measure::Size(e),
+        TpmsCapabilityDataRead::No(f) => Measure::No(f),
+    }
+}
+
 // By the reader of the kind. A number that is no kind is refused first.
 fn end_by_kind(kind: u8, s: &[u8], at: usize) -> Measure
     ensures { λ r. ⌜ measureAnswer r ≡ endOf (readKind kind (now (s .entry)) at) ⌝ }
@@ -181,6 +192,7 @@ fn end_by_kind(kind: u8, s: &[u8], at: usize) -> Measure
         12 => tpmt_sensitive_end(s, at),
         13 => tpms_attest_end(s, at),
         14 => tpml_pcr_selection_end(s, at),
+        15 => tpms_capability_data_end(s, at),
         _ => Measure::No(Refusal::bad_kind(wide_byte(kind))),
     }
 }

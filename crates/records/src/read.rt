@@ -4,6 +4,8 @@ use attest::attestation::TpmsAttest;
 use attest::attestation::TpmsAttestRead;
 use attest::list::TpmlPcrSelection;
 use attest::list::TpmlPcrSelectionRead;
+use capabilities::tpms::TpmsCapabilityData;
+use capabilities::tpms::TpmsCapabilityDataRead;
 use ciphers::tpmt::TpmtHa;
 use ciphers::tpmt::TpmtHaRead;
 use ciphers::tpmt::TpmtSymDef;
@@ -28,7 +30,7 @@ use sensitive::tpmt::TpmtSensitive;
 use sensitive::tpmt::TpmtSensitiveRead;
 use signatures::tpmt::TpmtSignature;
 use signatures::tpmt::TpmtSignatureRead;
-ghost use Rattle.format.specs.Kinds.{tpmtHa, tpmtSymDef, tpmtKdfScheme, tpmtKeyedhashScheme, tpmtSigScheme, tpmtAsymScheme, tpmtPublicParms, tpmtSignature, tpmtPublic, tpmtSensitive, tpmsAttest, tpmlPcrSelection};
+ghost use Rattle.format.specs.Kinds.{tpmtHa, tpmtSymDef, tpmtKdfScheme, tpmtKeyedhashScheme, tpmtSigScheme, tpmtAsymScheme, tpmtPublicParms, tpmtSignature, tpmtPublic, tpmtSensitive, tpmsAttest, tpmlPcrSelection, tpmsCapabilityData};
 ghost use Rattle.ciphers.specs.Answers.{tpmtHaAnswer, tpmtSymDefAnswer};
 ghost use Rattle.schemes.specs.Answers.{tpmtKdfSchemeAnswer, tpmtKeyedhashSchemeAnswer, tpmtSigSchemeAnswer, tpmtRsaSchemeAnswer, tpmtEccSchemeAnswer, tpmtRsaDecryptAnswer};
 ghost use Rattle.parameters.specs.Answers.{tpmtPublicParmsAnswer};
@@ -36,6 +38,7 @@ ghost use Rattle.signatures.specs.Answers.{tpmtSignatureAnswer};
 ghost use Rattle.keys.specs.Answers.{tpmtPublicAnswer};
 ghost use Rattle.sensitive.specs.Answers.{tpmtSensitiveAnswer};
 ghost use Rattle.attest.specs.Answers.{tpmsAttestAnswer, tpmlPcrSelectionAnswer};
+ghost use Rattle.capabilities.specs.Answers.{tpmsCapabilityDataAnswer};
 ghost use Rattle.records.specs.Reads.{Reads, ReadsWhole};
 
 pub fn tpmt_ha_read(s: &[u8], at: usize) -> TpmtHaRead
@@ -200,8 +203,20 @@ pub fn tpml_pcr_selection_read(s: &[u8], at: usize) -> TpmlPcrSelectionRead
     TpmlPcrSelection::unmarshal(s, at)
 }
 
+pub fn tpms_capability_data_read(s: &[u8], at: usize) -> TpmsCapabilityDataRead
+    ensures { λ r. ⌜ Reads tpmsCapabilityData (now (s .entry)) at (tpmsCapabilityDataAnswer r) ⌝ }
+{
+    TpmsCapabilityData::unmarshal(s, at)
+}
+
 pub fn tpml_pcr_selection_read_whole(s: &[u8], at: usize) -> TpmlPcrSelectionRead
     ensures { λ r. ⌜ ReadsWhole tpmlPcrSelection (now (s .entry)) at (tpmlPcrSelectionAnswer r) ⌝ }
 {
     TpmlPcrSelection::whole(s, at)
+}
+
+pub fn tpms_capability_data_read_whole(s: &[u8], at: usize) -> TpmsCapabilityDataRead
+    ensures { λ r. ⌜ ReadsWhole tpmsCapabilityData (now (s .entry)) at (tpmsCapabilityDataAnswer r) ⌝ }
+{
+    TpmsCapabilityData::whole(s, at)
 }

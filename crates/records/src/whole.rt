@@ -1,6 +1,7 @@
 // A record of any kind by the kind's number that is to be all there is, for callers that only need to know where it ends.
 use crate::read::tpml_pcr_selection_read_whole;
 use crate::read::tpms_attest_read_whole;
+use crate::read::tpms_capability_data_read_whole;
 use crate::read::tpmt_ecc_scheme_read_whole;
 use crate::read::tpmt_ha_read_whole;
 use crate::read::tpmt_kdf_scheme_read_whole;
@@ -15,6 +16,7 @@ use crate::read::tpmt_signature_read_whole;
 use crate::read::tpmt_sym_def_read_whole;
 use attest::attestation::TpmsAttestRead;
 use attest::list::TpmlPcrSelectionRead;
+use capabilities::tpms::TpmsCapabilityDataRead;
 use ciphers::tpmt::TpmtHaRead;
 use ciphers::tpmt::TpmtSymDefRead;
 use faults::Refusal;
@@ -33,7 +35,7 @@ use wire::widen::wide_byte;
 ghost use mathlib.Core.Path.{_≡_};
 ghost use Rattle.wire.specs.Answers.{measureAnswer};
 ghost use Rattle.wire.specs.Reading.{readWhole, endOf};
-ghost use Rattle.format.specs.Kinds.{tpmtHa, tpmtSymDef, tpmtKdfScheme, tpmtKeyedhashScheme, tpmtSigScheme, tpmtAsymScheme, tpmtPublicParms, tpmtSignature, tpmtPublic, tpmtSensitive, tpmsAttest, tpmlPcrSelection};
+ghost use Rattle.format.specs.Kinds.{tpmtHa, tpmtSymDef, tpmtKdfScheme, tpmtKeyedhashScheme, tpmtSigScheme, tpmtAsymScheme, tpmtPublicParms, tpmtSignature, tpmtPublic, tpmtSensitive, tpmsAttest, tpmlPcrSelection, tpmsCapabilityData};
 ghost use Rattle.records.specs.Ends.{readKindWhole, WholeEnds};
 
 fn tpmt_ha_whole_end(s: &[u8], at: usize) -> Measure
@@ -162,6 +164,15 @@ fn tpml_pcr_selection_whole_end(s: &[u8], at: usize) -> Measure
     }
 }
 
+fn tpms_capability_data_whole_end(s: &[u8], at: usize) -> Measure
+    ensures { λ r. ⌜ measureAnswer r ≡ endOf (readWhole tpmsCapabilityData (now (s .entry)) at) ⌝ }
+{
+    match tpms_capability_data_read_whole(s, at) {
+        TpmsCapabilityDataRead::Found(_, e) => Measure::Size(e),
+        TpmsCapabilityDataRead::No(f) => Measure::No(f),
+    }
+}
+
 // By the reader of the kind. A number that is no kind is refused first.
 fn whole_end_by_kind(kind: u8, s: &[u8], at: usize) -> Measure
     ensures { λ r. ⌜ measureAnswer r ≡ endOf (readKindWhole kind (now (s .entry)) at) ⌝ }
@@ -181,6 +192,7 @@ fn whole_end_by_kind(kind: u8, s: &[u8], at: usize) -> Measure
         12 => tpmt_sensitive_whole_end(s, at),
         13 => tpms_attest_whole_end(s, at),
         14 => tpml_pcr_selection_whole_end(s, at),
+        15 => tpms_capability_data_whole_end(s, at),
         _ => Measure::No(Refusal::bad_kind(wide_byte(kind))),
     }
 }

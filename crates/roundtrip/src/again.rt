@@ -1,6 +1,7 @@
 // A record of any kind by the kind's number: read, written, and read again from where it was written.
 use crate::back::tpml_pcr_selection_back;
 use crate::back::tpms_attest_back;
+use crate::back::tpms_capability_data_back;
 use crate::back::tpmt_ecc_scheme_back;
 use crate::back::tpmt_ha_back;
 use crate::back::tpmt_kdf_scheme_back;
@@ -17,6 +18,8 @@ use attest::attestation::TpmsAttest;
 use attest::attestation::TpmsAttestRead;
 use attest::list::TpmlPcrSelection;
 use attest::list::TpmlPcrSelectionRead;
+use capabilities::tpms::TpmsCapabilityData;
+use capabilities::tpms::TpmsCapabilityDataRead;
 use ciphers::tpmt::TpmtHa;
 use ciphers::tpmt::TpmtHaRead;
 use ciphers::tpmt::TpmtSymDef;
@@ -45,7 +48,7 @@ use signatures::tpmt::TpmtSignatureRead;
 use wire::measure::Measure;
 use wire::widen::wide_byte;
 ghost use Rattle.wire.specs.Reading.{read};
-ghost use Rattle.format.specs.Kinds.{tpmtHa, tpmtSymDef, tpmtKdfScheme, tpmtKeyedhashScheme, tpmtSigScheme, tpmtAsymScheme, tpmtPublicParms, tpmtSignature, tpmtPublic, tpmtSensitive, tpmsAttest, tpmlPcrSelection, readKind};
+ghost use Rattle.format.specs.Kinds.{tpmtHa, tpmtSymDef, tpmtKdfScheme, tpmtKeyedhashScheme, tpmtSigScheme, tpmtAsymScheme, tpmtPublicParms, tpmtSignature, tpmtPublic, tpmtSensitive, tpmsAttest, tpmlPcrSelection, tpmsCapabilityData, readKind};
 ghost use Rattle.roundtrip.specs.Roundtrip.{Rewrites, Again};
 
 fn tpmt_ha_again(s: &[u8], out: &mut [u8]) -> Measure
@@ -216,6 +219,18 @@ fn tpml_pcr_selection_again(s: &[u8], out: &mut [u8]) -> Measure
     }
 }
 
+fn tpms_capability_data_again(s: &[u8], out: &mut [u8]) -> Measure
+    ensures { λ r. ⌜ Rewrites (read tpmsCapabilityData (now (s .entry)) 0) (now (s .entry)) (now (out .entry)) r (now (out .exit)) ⌝ }
+{
+    match TpmsCapabilityData::unmarshal(s, 0) {
+        TpmsCapabilityDataRead::Found(x, _) => match tpms_capability_data_back(x, s, out) {
+            TpmsCapabilityDataRead::Found(_, e) => Measure::Size(e),
+            TpmsCapabilityDataRead::No(f) => Measure::No(f),
+        },
+        TpmsCapabilityDataRead::No(f) => Measure::No(f),
+    }
+}
+
 // By the calls of the kind's type. A number that is no kind is refused first.
 fn again_by_kind(kind: u8, s: &[u8], out: &mut [u8]) -> Measure
     ensures { λ r. ⌜ Rewrites (readKind kind (now (s .entry)) 0) (now (s .entry)) (now (out .entry)) r (now (out .exit)) ⌝ }
@@ -235,6 +250,7 @@ fn again_by_kind(kind: u8, s: &[u8], out: &mut [u8]) -> Measure
         12 => tpmt_sensitive_again(s, out),
         13 => tpms_attest_again(s, out),
         14 => tpml_pcr_selection_again(s, out),
+        15 => tpms_capability_data_again(s, out),
         _ => Measure::No(Refusal::bad_kind(wide_byte(kind))),
     }
 }

@@ -5,6 +5,8 @@ use attest::attestation::TpmsAttest;
 use attest::attestation::TpmsAttestRead;
 use attest::list::TpmlPcrSelection;
 use attest::list::TpmlPcrSelectionRead;
+use capabilities::tpms::TpmsCapabilityData;
+use capabilities::tpms::TpmsCapabilityDataRead;
 use ciphers::tpmt::TpmtHa;
 use ciphers::tpmt::TpmtHaRead;
 use ciphers::tpmt::TpmtSymDef;
@@ -30,7 +32,7 @@ use sensitive::tpmt::TpmtSensitiveRead;
 use signatures::tpmt::TpmtSignature;
 use signatures::tpmt::TpmtSignatureRead;
 use wire::measure::Measure;
-ghost use Rattle.format.specs.Kinds.{tpmtHa, tpmtSymDef, tpmtKdfScheme, tpmtKeyedhashScheme, tpmtSigScheme, tpmtAsymScheme, tpmtPublicParms, tpmtSignature, tpmtPublic, tpmtSensitive, tpmsAttest, tpmlPcrSelection};
+ghost use Rattle.format.specs.Kinds.{tpmtHa, tpmtSymDef, tpmtKdfScheme, tpmtKeyedhashScheme, tpmtSigScheme, tpmtAsymScheme, tpmtPublicParms, tpmtSignature, tpmtPublic, tpmtSensitive, tpmsAttest, tpmlPcrSelection, tpmsCapabilityData};
 ghost use Rattle.ciphers.specs.Parts.{tpmtHaParts, tpmtSymDefParts};
 ghost use Rattle.ciphers.specs.Answers.{tpmtHaAnswer, tpmtSymDefAnswer};
 ghost use Rattle.schemes.specs.Parts.{tpmtKdfSchemeParts, tpmtKeyedhashSchemeParts, tpmtSigSchemeParts, tpmtRsaSchemeParts, tpmtEccSchemeParts, tpmtRsaDecryptParts};
@@ -44,7 +46,9 @@ ghost use Rattle.keys.specs.Answers.{tpmtPublicAnswer};
 ghost use Rattle.sensitive.specs.Parts.{tpmtSensitiveParts};
 ghost use Rattle.sensitive.specs.Answers.{tpmtSensitiveAnswer};
 ghost use Rattle.attest.specs.Parts.{tpmsAttestParts, tpmlPcrSelectionParts};
+ghost use Rattle.capabilities.specs.Parts.{tpmsCapabilityDataParts};
 ghost use Rattle.attest.specs.Answers.{tpmsAttestAnswer, tpmlPcrSelectionAnswer};
+ghost use Rattle.capabilities.specs.Answers.{tpmsCapabilityDataAnswer};
 ghost use Rattle.roundtrip.specs.Roundtrip.{ReadsBack};
 
 pub fn tpmt_ha_back(x: TpmtHa, src: &[u8], out: &mut [u8]) -> TpmtHaRead
@@ -192,5 +196,19 @@ pub fn tpml_pcr_selection_back(
     match x.marshal(src, &mut out[..room]) {
         Measure::Size(_) => TpmlPcrSelection::unmarshal(out, 0),
         Measure::No(f) => TpmlPcrSelectionRead::No(f),
+    }
+}
+
+pub fn tpms_capability_data_back(
+    x: TpmsCapabilityData,
+    src: &[u8],
+    out: &mut [u8],
+) -> TpmsCapabilityDataRead
+    ensures { λ r. ⌜ ReadsBack tpmsCapabilityData (tpmsCapabilityDataParts x) (now (src .entry)) (now (out .entry)) (tpmsCapabilityDataAnswer r) (now (out .exit)) ⌝ }
+{
+    let room = x.measure(src).lend(out.len());
+    match x.marshal(src, &mut out[..room]) {
+        Measure::Size(_) => TpmsCapabilityData::unmarshal(out, 0),
+        Measure::No(f) => TpmsCapabilityDataRead::No(f),
     }
 }

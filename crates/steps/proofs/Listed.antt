@@ -1,5 +1,6 @@
 -- What a walk puts that is for lines, over any steps: the text of their lines. Assumes nothing.
 use Prim.Native.Nat.{ℕ, zero, suc, _+_, _*_, _≤_, _<_}
+use native.Mathlib.Nat.{suc-mul, mul-le-mul-right}
 use native.Mathlib.Omega.{arith}
 use mathlib.Core.Path.{_≡_, refl, sym, ap, _∙_, subst}
 use mathlib.Core.Bool.{true}
@@ -10,20 +11,20 @@ use borrow.Author.Tests.{le-leb, leb-true}
 use Rattle.wire.specs.declared.span.Span.{Span}
 use Rattle.wire.specs.Answers.{widthOf, startOf, lenOf}
 use Rattle.wire.specs.Bytes.{be, digits}
-use Rattle.wire.specs.Layout.{Rule, free, listed, fixed, lengthTo, countTo, Layout}
+use Rattle.wire.specs.Layout.{Rule, free, listed, fixed, lengthTo, countTo, Layout, stop, noArm, arm, number, plain, buffer, one}
 use Rattle.wire.specs.Lines.{Says, aCode, aNumber, theBytes, Line, line, sayNumber, lines, ofRead}
-use Rattle.wire.specs.Records.{Part, num, span, found, next, left, Parsed}
+use Rattle.wire.specs.Records.{Part, found, next, left, Parsed}
 use Rattle.wire.specs.Reading.{piece, field, walk, read}
 use Rattle.wire.specs.Writing.{cut, whole, lay}
 use Rattle.wire.proofs.Digits.{length-digits}
 use Rattle.wire.proofs.Cuts.{cut-length}
-use Rattle.wire.proofs.Stand.{stands-left}
-use Rattle.wire.proofs.Steps.{found-same, parsed-same, next-found, piece-found}
+use Rattle.wire.proofs.Steps.{found-same, found-refused, next-found}
 use Rattle.wire.proofs.Written.{moved-found}
-use Rattle.codes.specs.Codes.{alg}
+use Rattle.codes.specs.Codes.{alg, curve}
 use Rattle.format.specs.declared.list.ListOf.{ListOf}
-use Rattle.format.specs.declared.list.ListOf.the-variants.{PcrSelection}
-use Rattle.format.specs.Kinds.{tpmsPcrSelection, itemLayout, mostItems}
+use Rattle.format.specs.declared.list.ListOf.the-variants.{AlgProperty, Handle, Cca, Cc, PcrSelection, TaggedTpmProperty, EccCurve, TaggedPolicy, ActData}
+use Rattle.format.specs.Kinds.{tpmtHa, tpmsPcrSelection, tpmsAlgProperty, tpmsTaggedProperty, tpmsTaggedPolicy, tpmsActData, itemLayout, mostItems}
+use Rattle.format.proofs.Bounds.{digest-holds}
 use Rattle.text.specs.Puts.{Puts}
 use Rattle.text.specs.declared.line.Word.{Word}
 use Rattle.text.specs.Text.{lineText, linesText}
@@ -123,64 +124,141 @@ number-need (fixed p) n = refl
 number-need (lengthTo m) n = refl
 number-need (countTo m) n = refl
 
--- the bits of a selection follow its bank and their size, and end it
-selection-shape : (xs : List ℕ) (at : ℕ) {r : Parsed} → read tpmsPcrSelection xs at ≡ found r
-    → (n : ℕ) × (m : ℕ) × (r .parts ≡ num n ∷ span (at + 2 + 1) m ∷ []) × (r .stops ≡ at + 2 + 1 + m) × (at + 2 + 1 + m ≤ length xs)
-unfolding read tpmsPcrSelection field
-selection-shape xs at p =
-    let (n, a, q) = next-found (field 2 alg xs at) _ p in
-    let (r, l, s) = next-found (next (field 1 (lengthTo 4) xs (at + 2)) _) _ q in
-    let (m, d, f) = next-found (field 1 (lengthTo 4) xs (at + 2)) _ l in
-    let (ys, g, h) = next-found (piece m xs (at + 2 + 1)) _ f in
-    let (bits, o, t) = next-found (piece 1 xs (at + 2)) _ d in
-    let inner = found-same h in
-    let (parts, stops) = parsed-same (sym s) in
-    let (size, stands) = piece-found m xs (at + 2 + 1) g in
-    let (one, there) = piece-found 1 xs (at + 2) o in
-    (n, m, parts ∙ ap (λ z. num n ∷ z .parts) (sym inner), stops ∙ ap (λ z. z .stops) (sym inner), omega (arith, stands-left stands, stands-left there))
+-- what the lines of a record, read from `at` on as r, need from the place `place` on: c characters, besides two digits a byte; and no place
+-- and no size of them has more than four digits, if the record's end has not
+record LinesNeed (l : Layout) (c : ℕ) (xs : List ℕ) (at place : ℕ) (r : Parsed) : Type 0 where
+  pub ahead : at ≤ r .stops
+  pub few : needs (lines l (r .parts) xs place) + 2 * at ≤ c + 2 * r .stops
+  pub near : place + r .stops < 10000 + at → Short (lines l (r .parts) xs place)
 
-selection-needs : (xs : List ℕ) (place n a m : ℕ) {ps : List Part} → ps ≡ num n ∷ span a m ∷ [] → needs (lines tpmsPcrSelection ps xs place) ≤ 94 + 2 * m
-unfolding lines tpmsPcrSelection
-selection-needs xs place n a m e = rw e (omega (arith, length-take m (drop a xs)))
+-- the same of every record of the layout
+abbrev Needing : Layout → ℕ → Type 0
+Needing l c = (xs : List ℕ) (at place : ℕ) (r : Parsed) → read l xs at ≡ found r → LinesNeed l c xs at place r
 
-selection-short : (xs : List ℕ) (place n a m : ℕ) {ps : List Part} → ps ≡ num n ∷ span a m ∷ [] → place + 3 + m < 10000 → Short (lines tpmsPcrSelection ps xs place)
-unfolding lines tpmsPcrSelection
-selection-short xs place n a m e near = rw e (omega arith, omega arith, (omega arith, omega arith, (omega arith, omega arith, tt)))
+needing-more : {l : Layout} {c d : ℕ} → c ≤ d → Needing l c → Needing l d
+needing-more h g xs at place r p = let q = g xs at place r p in record { ahead = q .ahead; few = omega (arith, q .few); near = q .near }
 
--- a line a list: what the lines of an item need, besides two digits a byte, and those of all its items
-item-needs : (which : ListOf) (xs : List ℕ) (at place : ℕ) {r : Parsed} → read (itemLayout which) xs at ≡ found r → needs (lines (itemLayout which) (r .parts) xs place) + 2 * at ≤ 94 + 2 * r .stops
-item-needs PcrSelection xs at place p =
-    let (n, m, parts, stops, inside) = selection-shape xs at p in
-    omega (arith, selection-needs xs place n (at + 2 + 1) m parts, stops)
+stop-needing : Needing stop 0
+unfolding read lines
+stop-needing xs at place r p = rw (← found-same p) (record { ahead = omega arith; few = omega arith; near = λ h. tt })
 
-item-short : (which : ListOf) (xs : List ℕ) (at place : ℕ) {r : Parsed} → read (itemLayout which) xs at ≡ found r → place + length xs < 10000 → Short (lines (itemLayout which) (r .parts) xs (place + at))
-item-short PcrSelection xs at place p near =
-    let (n, m, parts, stops, inside) = selection-shape xs at p in
-    selection-short xs (place + at) n (at + 2 + 1) m parts (omega arith)
+no-arm-needing : (c v : ℕ) → Needing (noArm v) c
+unfolding read
+no-arm-needing c v xs at place r p = absurd (found-refused p)
 
-few-items : (which : ListOf) → mostItems which ≤ 16
-few-items PcrSelection = omega arith
+arm-needing : (c v t : ℕ) (l : Layout) → Needing l c → Needing (arm v t l) c
+unfolding read lines
+arm-needing c v t l h xs at place r p =
+    let (inner, q, s) = next-found (read l xs at) _ p in
+    let g = h xs at place inner q in
+    rw (← found-same s) (record { ahead = g .ahead; few = g .few; near = g .near })
+
+number-needing : (w c : ℕ) (rule : Rule) {k : ℕ → Layout} → ((n : ℕ) → Needing (k n) c) → Needing (number w rule k) (38 + c)
+unfolding read lines
+number-needing w c rule {k} h xs at place r p =
+    let (n, a, q) = next-found (field w rule xs at) _ p in
+    let (inner, t, s) = next-found (read (k n) xs (at + w)) _ q in
+    let g = h n xs (at + w) (place + w) inner t in
+    rw (← found-same s)
+    (record { ahead = omega (arith, g .ahead); few = omega (arith, number-need rule n, g .few); near = λ e. (omega (arith, g .ahead), omega (arith, g .ahead), g .near (omega arith)) })
+
+plain-needing : (n c : ℕ) {l : Layout} → Needing l c → Needing (plain n l) (18 + c)
+unfolding read lines
+plain-needing n c {l} h xs at place r p =
+    let (ys, a, q) = next-found (piece n xs at) _ p in
+    let (inner, t, s) = next-found (read l xs (at + n)) _ q in
+    let g = h xs (at + n) (place + n) inner t in
+    rw (← found-same s)
+    (record { ahead = omega (arith, g .ahead); few = omega (arith, length-take n (drop at xs), g .few); near = λ e. (omega (arith, g .ahead), omega (arith, g .ahead), g .near (omega arith)) })
+
+buffer-needing : (w m c : ℕ) {l : Layout} → Needing l c → Needing (buffer w m l) (56 + c)
+unfolding read lines
+buffer-needing w m c {l} h xs at place r p =
+    let (n, a, q) = next-found (field w (lengthTo m) xs at) _ p in
+    let (ys, b, o) = next-found (piece n xs (at + w)) _ q in
+    let (inner, t, s) = next-found (read l xs (at + w + n)) _ o in
+    let g = h xs (at + w + n) (place + w + n) inner t in
+    rw (← found-same s)
+    (record {
+      ahead = omega (arith, g .ahead);
+      few = omega (arith, length-take n (drop (at + w) xs), g .few);
+      near = λ e. (omega (arith, g .ahead), omega (arith, g .ahead), (omega (arith, g .ahead), omega (arith, g .ahead), g .near (omega arith)));
+    })
+
+one-needing : (w : ℕ) (rule : Rule) → Needing (one w rule) 38
+one-needing w rule = number-needing w 0 rule (λ n. stop-needing)
+
+ha-needing : Needing tpmtHa 56
+unfolding tpmtHa
+ha-needing =
+    number-needing 2 18 alg
+    (digest-holds (λ l. Needing l 18) (no-arm-needing 18) (arm-needing 18)
+    (λ n h. plain-needing n 0 stop-needing) (needing-more (omega arith) stop-needing))
+
+-- a line a list: what the lines of an item need, besides two digits a byte, and those of the most items
+abbrev itemNeeds : ListOf → ℕ
+itemNeeds AlgProperty = 76
+itemNeeds Handle = 38
+itemNeeds Cca = 38
+itemNeeds Cc = 38
+itemNeeds PcrSelection = 94
+itemNeeds TaggedTpmProperty = 76
+itemNeeds EccCurve = 38
+itemNeeds TaggedPolicy = 94
+itemNeeds ActData = 114
+
+item-needing : (which : ListOf) → Needing (itemLayout which) (itemNeeds which)
+unfolding tpmsPcrSelection tpmsAlgProperty tpmsTaggedProperty tpmsTaggedPolicy tpmsActData
+item-needing AlgProperty = number-needing 2 38 alg (λ n. one-needing 4 free)
+item-needing Handle = one-needing 4 free
+item-needing Cca = one-needing 4 free
+item-needing Cc = one-needing 4 free
+item-needing PcrSelection = number-needing 2 56 alg (λ n. buffer-needing 1 4 0 stop-needing)
+item-needing TaggedTpmProperty = number-needing 4 38 free (λ n. one-needing 4 free)
+item-needing EccCurve = one-needing 2 curve
+item-needing TaggedPolicy = number-needing 4 56 free (λ n. ha-needing)
+item-needing ActData = number-needing 4 76 free (λ n. number-needing 4 38 free (λ n. one-needing 4 free))
+
+all-need : (which : ListOf) → mostItems which * itemNeeds which ≤ 9728
+all-need AlgProperty = omega arith
+all-need Handle = omega arith
+all-need Cca = omega arith
+all-need Cc = omega arith
+all-need PcrSelection = omega arith
+all-need TaggedTpmProperty = omega arith
+all-need EccCurve = omega arith
+all-need TaggedPolicy = omega arith
+all-need ActData = omega arith
 
 module _ (which : ListOf) (xs : List ℕ) (place : ℕ) where
   item-then : (n at : ℕ) {r : Parsed} → read (itemLayout which) xs at ≡ found r → leftLines which (suc n) xs at place ≡ lines (itemLayout which) (r .parts) xs (place + at) ++ leftLines which n xs (r .stops) place
   item-then n at q = ap (λ a. ofRead a (λ r. lines (itemLayout which) (r .parts) xs (place + at) ++ leftLines which n xs (r .stops) place)) q
 
-  items-needs : (n at : ℕ) {e : ℕ} → walk (λ s a. read (itemLayout which) s a) n xs at ≡ found e → needs (leftLines which n xs at place) + 2 * at ≤ 94 * n + 2 * e
+  items-ahead : (n at : ℕ) {e : ℕ} → walk (λ s a. read (itemLayout which) s a) n xs at ≡ found e → at ≤ e
+  items-ahead zero at p = omega (arith, found-same p)
+  items-ahead (suc n) at p =
+      let (r, q, s) = next-found (read (itemLayout which) xs at) _ p in
+      omega (arith, item-needing which xs at place r q .ahead, items-ahead n (r .stops) s)
+
+  items-needs : (n at : ℕ) {e : ℕ} → walk (λ s a. read (itemLayout which) s a) n xs at ≡ found e → needs (leftLines which n xs at place) + 2 * at ≤ n * itemNeeds which + 2 * e
   items-needs zero at p = omega (arith, found-same p)
   items-needs (suc n) at p =
       let (r, q, s) = next-found (read (itemLayout which) xs at) _ p in
       let ls = lines (itemLayout which) (r .parts) xs (place + at) in
       let ms = leftLines which n xs (r .stops) place in
-      omega (arith, ap needs (item-then n at q), needs-append ls ms, items-needs n (r .stops) s, item-needs which xs at (place + at) q)
+      omega (arith, ap needs (item-then n at q), needs-append ls ms, items-needs n (r .stops) s, item-needing which xs at (place + at) r q .few, suc-mul n (itemNeeds which))
 
-  items-short : (n at : ℕ) {e : ℕ} → walk (λ s a. read (itemLayout which) s a) n xs at ≡ found e → place + length xs < 10000 → Short (leftLines which n xs at place)
+  items-short : (n at : ℕ) {e : ℕ} → walk (λ s a. read (itemLayout which) s a) n xs at ≡ found e → place + e < 10000 → Short (leftLines which n xs at place)
   items-short zero at p near = tt
   items-short (suc n) at p near =
       let (r, q, s) = next-found (read (itemLayout which) xs at) _ p in
-      rw (item-then n at q) (short-append (lines (itemLayout which) (r .parts) xs (place + at)) (leftLines which n xs (r .stops) place) (item-short which xs at place q near) (items-short n (r .stops) s near))
+      let behind = items-ahead n (r .stops) s in
+      rw (item-then n at q)
+      (short-append (lines (itemLayout which) (r .parts) xs (place + at)) (leftLines which n xs (r .stops) place)
+      (item-needing which xs at (place + at) r q .near (omega arith)) (items-short n (r .stops) s near))
 
-  list-needs : {ys : List ℕ} → whole (mostItems which) (itemLayout which) xs ≡ found ys → needs (itemsLines which xs place) ≤ 1542 + 2 * length xs
-  list-needs w = omega (arith, items-needs (be (take 4 xs)) 4 (items-legal which xs w refl), count-few which xs w, few-items which)
+  list-needs : {ys : List ℕ} → whole (mostItems which) (itemLayout which) xs ≡ found ys → needs (itemsLines which xs place) ≤ 9766 + 2 * length xs
+  list-needs w = omega (arith, items-needs (be (take 4 xs)) 4 (items-legal which xs w refl), mul-le-mul-right (itemNeeds which) (count-few which xs w), all-need which)
 
   list-short : {ys : List ℕ} → whole (mostItems which) (itemLayout which) xs ≡ found ys → place + length xs < 10000 → Short (itemsLines which xs place)
   list-short w near = (omega arith, omega arith, items-short (be (take 4 xs)) 4 (items-legal which xs w refl) near)
@@ -200,7 +278,7 @@ list-legal i s src at {xs} p =
     let same = cut-is src (startOf s) (lenOf s) at e .0 in
     (xs, rw same at (moved-found at (whole (mostItems i) (itemLayout i) ys) q))
 
-step-need : (s : Step) (src : List ℕ) (at : ℕ) {xs : List ℕ} → spellStep s src at ≡ found xs → at + length xs < 10000 → length (linesText (stepLines s src at)) ≤ 56 + (1486 * isList s + 2 * length xs)
+step-need : (s : Step) (src : List ℕ) (at : ℕ) {xs : List ℕ} → spellStep s src at ≡ found xs → at + length xs < 10000 → length (linesText (stepLines s src at)) ≤ 56 + (9710 * isList s + 2 * length xs)
 step-need (Number w r n) src at p near =
     let size = ap length (step-is (Number w r n) src at p .0) ∙ length-digits (widthOf w) n in
     omega (arith, number-need r n, text-need (stepLines (Number w r n) src at) (omega arith, omega arith, tt))
@@ -290,7 +368,7 @@ lists-cons (Buffer m s) ss = omega arith
 lists-cons (Items i s) ss = omega arith
 lists-cons (Due v c b) ss = omega arith
 
-lines-few : (ss : List Step) (src : List ℕ) (at : ℕ) {bs : List ℕ} → spell ss src at ≡ found bs → at + length bs < 10000 → length (linesText (linesOf ss src at)) ≤ 56 * length ss + (1486 * length (listsOf ss) + 2 * length bs)
+lines-few : (ss : List Step) (src : List ℕ) (at : ℕ) {bs : List ℕ} → spell ss src at ≡ found bs → at + length bs < 10000 → length (linesText (linesOf ss src at)) ≤ 56 * length ss + (9710 * length (listsOf ss) + 2 * length bs)
 unfolding linesOf
 lines-few [] src at p near = omega arith
 lines-few (s ∷ ss) src at p near =
@@ -306,7 +384,7 @@ lines-few (s ∷ ss) src at p near =
 -- of at most 24 steps, one list and 4,096 bytes: how long its lines are is counted, and where they fit they are put
 pub walk-lists : (k : ℕ) (l : Layout) (ps ls : List Part) (src old last : List ℕ) (u w : Walk) (v : ℕ) (bs : List ℕ) → u ≡ lining 0 v → Walks k l ps ls src (here u old) (here w last) → lay l ps src 0 ≡ found bs
     → leb k 24 ≡ true → length ls ≤ 1 → length bs ≤ 4096 → v ≤ 0x10000
-    → (w .value ≡ v + length (linesText (lines l ps src 0))) × (v + length (linesText (lines l ps src 0)) ≤ length old → Puts v (linesText (lines l ps src 0)) old (v + length (linesText (lines l ps src 0))) last) × (length (linesText (lines l ps src 0)) ≤ 2830 + 2 * length bs)
+    → (w .value ≡ v + length (linesText (lines l ps src 0))) × (v + length (linesText (lines l ps src 0)) ≤ length old → Puts v (linesText (lines l ps src 0)) old (v + length (linesText (lines l ps src 0))) last) × (length (linesText (lines l ps src 0)) ≤ 11054 + 2 * length bs)
 walk-lists k l ps ls src old last u w v bs begin p laid few one small near =
     let most = leb-true k 24 few in
     let there = p .goes .same ∙ ap (λ x. run (p .steps) src (here x old)) begin in

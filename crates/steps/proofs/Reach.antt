@@ -11,15 +11,16 @@ use borrow.Author.Tests.{leb-true, eqb-true}
 use Rattle.faults.specs.declared.Refusal.{Refusal}
 use Rattle.faults.specs.Faults.{short}
 use Rattle.wire.specs.Bytes.{be}
-use Rattle.wire.specs.Layout.{Rule, free, listed, fixed, lengthTo, countTo, allows, breach, stop, buffer}
-use Rattle.wire.specs.Records.{Part, num, Ans, found, refused, next, left, Parsed}
+use Rattle.wire.specs.Layout.{Rule, free, listed, fixed, lengthTo, countTo, allows, breach, Layout, stop, noArm, arm, number, plain, buffer, one}
+use Rattle.wire.specs.Records.{Part, num, tag, span, Ans, found, refused, next, left, Parsed}
 use Rattle.wire.specs.Reading.{also, piece, field, walk, list, endOf, read}
 use Rattle.wire.specs.Writing.{whole}
 use Rattle.wire.proofs.Steps.{found-same, next-found, when-found}
-use Rattle.codes.specs.Codes.{alg}
+use Rattle.codes.specs.Codes.{alg, curve}
 use Rattle.format.specs.declared.list.ListOf.{ListOf}
-use Rattle.format.specs.Kinds.{tpmsPcrSelection, itemLayout, mostItems}
-use Rattle.format.proofs.Lists.{greatestItem, greatestList}
+use Rattle.format.specs.Kinds.{tpmtHa, tpmsPcrSelection, tpmsAlgProperty, tpmsTaggedProperty, tpmsTaggedPolicy, tpmsActData, itemLayout, mostItems}
+use Rattle.format.proofs.Bounds.{digest-holds}
+use Rattle.format.proofs.Lists.{greatestItem, greatestList, list-small}
 
 -- an answer that ends, or fails, not beyond the place n
 abbrev Within : Ans ℕ → ℕ → Type 0
@@ -67,26 +68,77 @@ module _ (src : List ℕ) (at n : ℕ) (here : at ≤ n) where
       by true = g (take m (drop at src))
       by false = here
 
-bits-within : (src : List ℕ) (at : ℕ) → Within (endOf (read (buffer 1 4 stop) src at)) (at + 5)
+-- the reader of a layout, wherever it begins, reaches no further than m bytes on
+record Reaching (l : Layout) (m : ℕ) : Type 0 where
+  pub reaches : (src : List ℕ) (at : ℕ) → Within (endOf (read l src at)) (at + m)
+
+reaching-more : {l : Layout} {m n : ℕ} → m ≤ n → Reaching l m → Reaching l n
+reaching-more {l} h g = record { reaches = λ src at. within-more (endOf (read l src at)) (g .reaches src at) (omega arith) }
+
+stop-reaching : Reaching stop 0
 unfolding read
-bits-within src at =
-    rw (end-next (field 1 (lengthTo 4) src at) _)
-    (field-within src at (at + 5) (omega arith) 1 (lengthTo 4) _
-    (λ m e. let small : m ≤ 4 = leb-true m 4 e in rw (end-next (piece m src (at + 1)) _) (piece-within src (at + 1) (at + 5) (omega arith) m _ (λ xs. omega arith))))
+stop-reaching = record { reaches = λ src at. omega arith }
 
-selection-within : (src : List ℕ) (at : ℕ) → Within (endOf (read tpmsPcrSelection src at)) (at + 7)
-unfolding read tpmsPcrSelection
-selection-within src at =
-    rw (end-next (field 2 alg src at) _)
-    (field-within src at (at + 7) (omega arith) 2 alg _
-    (λ m e. rw (also-end (num m) (read (buffer 1 4 stop) src (at + 2))) (within-more (endOf (read (buffer 1 4 stop) src (at + 2))) (bits-within src (at + 2)) (omega arith))))
+no-arm-reaching : (m v : ℕ) → Reaching (noArm v) m
+unfolding read
+no-arm-reaching m v = record { reaches = λ src at. omega arith }
 
--- a line a list: no item reaches further than the greatest, and the greatest list is small
-item-within : (i : ListOf) (src : List ℕ) (at : ℕ) → Within (endOf (read (itemLayout i) src at)) (at + greatestItem i)
-item-within ListOf.PcrSelection src at = selection-within src at
+arm-reaching : (m v t : ℕ) (l : Layout) → Reaching l m → Reaching (arm v t l) m
+unfolding read
+arm-reaching m v t l h = record { reaches = λ src at. rw (also-end (tag t) (read l src at)) (h .reaches src at) }
 
-pub list-small : (i : ListOf) → greatestList i ≤ 0x10000
-list-small ListOf.PcrSelection = omega arith
+number-reaching : (w m : ℕ) (r : Rule) {k : ℕ → Layout} → ((n : ℕ) → Reaching (k n) m) → Reaching (number w r k) (w + m)
+unfolding read
+number-reaching w m r {k} h = record {
+  reaches = λ src at.
+      rw (end-next (field w r src at) _)
+      (field-within src at (at + (w + m)) (omega arith) w r _
+      (λ n a. rw (also-end (num n) (read (k n) src (at + w))) (within-more (endOf (read (k n) src (at + w))) (h n .reaches src (at + w)) (omega arith))));
+}
+
+plain-reaching : (n m : ℕ) {l : Layout} → Reaching l m → Reaching (plain n l) (n + m)
+unfolding read
+plain-reaching n m {l} h = record {
+  reaches = λ src at.
+      rw (end-next (piece n src at) _)
+      (piece-within src at (at + (n + m)) (omega arith) n _
+      (λ xs. rw (also-end (span at n) (read l src (at + n))) (within-more (endOf (read l src (at + n))) (h .reaches src (at + n)) (omega arith))));
+}
+
+buffer-reaching : (w m k : ℕ) {l : Layout} → Reaching l k → Reaching (buffer w m l) (w + m + k)
+unfolding read
+buffer-reaching w m k {l} h = record {
+  reaches = λ src at.
+      rw (end-next (field w (lengthTo m) src at) _)
+      (field-within src at (at + (w + m + k)) (omega arith) w (lengthTo m) _
+      (λ n e. let small : n ≤ m = leb-true n m e in
+      rw (end-next (piece n src (at + w)) _)
+      (piece-within src (at + w) (at + (w + m + k)) (omega arith) n _
+      (λ xs. rw (also-end (span (at + w) n) (read l src (at + w + n))) (within-more (endOf (read l src (at + w + n))) (h .reaches src (at + w + n)) (omega arith))))));
+}
+
+one-reaching : (w : ℕ) (r : Rule) → Reaching (one w r) (w + 0)
+one-reaching w r = number-reaching w 0 r (λ n. stop-reaching)
+
+ha-reaching : Reaching tpmtHa 66
+unfolding tpmtHa
+ha-reaching =
+    number-reaching 2 64 alg
+    (digest-holds (λ l. Reaching l 64) (no-arm-reaching 64) (arm-reaching 64)
+    (λ n h. reaching-more (omega arith) (plain-reaching n 0 stop-reaching)) (reaching-more (omega arith) stop-reaching))
+
+-- a line a list: no item reaches further than the greatest
+item-within : (i : ListOf) → Reaching (itemLayout i) (greatestItem i)
+unfolding tpmsPcrSelection tpmsAlgProperty tpmsTaggedProperty tpmsTaggedPolicy tpmsActData
+item-within ListOf.AlgProperty = number-reaching 2 4 alg (λ n. one-reaching 4 free)
+item-within ListOf.Handle = one-reaching 4 free
+item-within ListOf.Cca = one-reaching 4 free
+item-within ListOf.Cc = one-reaching 4 free
+item-within ListOf.PcrSelection = number-reaching 2 5 alg (λ n. buffer-reaching 1 4 0 stop-reaching)
+item-within ListOf.TaggedTpmProperty = number-reaching 4 4 free (λ n. one-reaching 4 free)
+item-within ListOf.EccCurve = one-reaching 2 curve
+item-within ListOf.TaggedPolicy = number-reaching 4 66 free (λ n. ha-reaching)
+item-within ListOf.ActData = number-reaching 4 8 free (λ n. number-reaching 4 4 free (λ n. one-reaching 4 free))
 
 walk-by : (a : Ans Parsed) (k : ℕ → Ans ℕ) (m n : ℕ) → Within (endOf a) m → m ≤ n → ((e : ℕ) → e ≤ m → Within (k e) n) → Within (next a (λ r. k (r .stops))) n
 walk-by (found r) k m n h g f = f (r .stops) h
@@ -99,7 +151,7 @@ module _ (i : ListOf) where
   walk-within : (n : ℕ) (src : List ℕ) (at : ℕ) → Within (items n src at) (at + n * greatestItem i)
   walk-within zero src at = omega arith
   walk-within (suc n) src at =
-      walk-by (read (itemLayout i) src at) (λ e. items n src e) (at + greatestItem i) (at + suc n * greatestItem i) (item-within i src at) (omega (arith, more))
+      walk-by (read (itemLayout i) src at) (λ e. items n src e) (at + greatestItem i) (at + suc n * greatestItem i) (item-within i .reaches src at) (omega (arith, more))
       (λ e h. within-more (items n src e) (walk-within n src e) (omega (arith, more)))
     where
       more : suc n * greatestItem i ≡ n * greatestItem i + greatestItem i

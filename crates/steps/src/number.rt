@@ -7,6 +7,7 @@ use crate::walk::judging;
 use crate::walk::putting;
 use crate::walk::refusing;
 use codes::TpmAlgId;
+use codes::TpmCap;
 use codes::TpmEccCurve;
 use codes::TpmSt;
 use faults::Refusal;
@@ -26,7 +27,7 @@ ghost use Rattle.wire.specs.Answers.{widthOf};
 ghost use Rattle.wire.specs.Bytes.{digits};
 ghost use Rattle.wire.specs.Layout.{free};
 ghost use Rattle.wire.specs.Records.{found};
-ghost use Rattle.codes.specs.Codes.{alg, curve, attestation, yesNo, magic};
+ghost use Rattle.codes.specs.Codes.{alg, curve, attestation, cap, yesNo, magic};
 ghost use Rattle.steps.specs.Walks.{here, judging, refusing, Moves, putOne, numberWalk, Numbers, Dues};
 
 fn byte(n: u8) -> u64
@@ -156,6 +157,23 @@ impl Walk {
         )
     }
 
+    pub fn capability(self, c: TpmCap, out: &mut [u8]) -> Walk
+        ensures { λ r. ⌜ Numbers Four cap (c .0) (here self (now (out .entry))) (here r (now (out .exit))) ⌝ }
+    {
+        let n = wider(c.0);
+        if self.mode == PUT {
+            return self.put(Width::Four, n, out);
+        }
+        self.aside(
+            c.is_listed(),
+            Word::Code,
+            Width::Four,
+            n,
+            Refusal::unknown_code(self.at, n),
+            out,
+        )
+    }
+
     pub fn yes_no(self, b: u8, out: &mut [u8]) -> Walk
         ensures { λ r. ⌜ Numbers One yesNo b (here self (now (out .entry))) (here r (now (out .exit))) ⌝ }
     {
@@ -221,8 +239,7 @@ impl Walk {
         self.free(Width::Eight, n, out)
     }
 
-    // Where the arm of a union is due: the one that the selector chooses, and whether it is held.
-    pub fn due(self, selector: u16, chosen: Choice, held: bool) -> Walk
+    fn arm_due(self, selector: u64, chosen: Choice, held: bool) -> Walk
         ensures { λ r. ⌜ Dues selector chosen held self r ⌝ }
     {
         if self.mode != JUDGE {
@@ -233,9 +250,23 @@ impl Walk {
                 if held {
                     return self;
                 }
-                refusing(Refusal::mismatch(self.at, selector as u64))
+                refusing(Refusal::mismatch(self.at, selector))
             }
-            Choice::Nothing => refusing(Refusal::no_arm(self.at, selector as u64)),
+            Choice::Nothing => refusing(Refusal::no_arm(self.at, selector)),
         }
+    }
+
+    // Where the arm of a union is due: the one that the selector chooses, and whether it is held.
+    pub fn due(self, selector: u16, chosen: Choice, held: bool) -> Walk
+        ensures { λ r. ⌜ Dues selector chosen held self r ⌝ }
+    {
+        self.arm_due(selector as u64, chosen, held)
+    }
+
+    // The same under a selector of four bytes.
+    pub fn due_by_capability(self, selector: TpmCap, chosen: Choice, held: bool) -> Walk
+        ensures { λ r. ⌜ Dues (selector .0) chosen held self r ⌝ }
+    {
+        self.arm_due(selector.0 as u64, chosen, held)
     }
 }

@@ -13,7 +13,7 @@ pub const MAX_NV_BUFFER_SIZE: usize = 2048;
 pub const PCR_SELECT_MAX: usize = 4;
 pub const TPM_GENERATED_VALUE: u32 = 0xff54_4347;
 
-// Named by the text, with values from nowhere. No reader or writer of kinds 1 to 14 looks at the first three; the last is in `SIZE` alone.
+// Named by the text, with values from nowhere. No reader or writer of a kind looks at the first three; the last is in `SIZE` alone.
 pub const MAX_BUFFER_SIZE: usize = 1024;
 pub const MAX_EVENT_SIZE: usize = 1024;
 pub const MAX_PRIVATE_SIZE: usize = 1408;

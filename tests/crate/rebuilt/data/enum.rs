@@ -1,6 +1,6 @@
 //! Rebuilt, not the crate's. Forced are the names that the text has in its patterns, that a code is such a pattern and has `value()`, and that its
-//! view is itself (tpmt.rs:52). No number is in the text. Algorithms, curves and attestation types are docs/FORMAT.md's (section 3), the
-//! other structure tags, capabilities, handle types and hierarchies Part 2's. Which code is the default is a guess that no reader or writer uses.
+//! view is itself (tpmt.rs:52). No number is in the text. Algorithms, curves, attestation types and capabilities are docs/FORMAT.md's (section 3),
+//! the other structure tags, handle types and hierarchies Part 2's. Which code is the default is a guess that no reader or writer uses.
 
 use crate::tpm_enum;
 
@@ -98,8 +98,7 @@ tpm_enum! {
     }
 }
 
-// Kinds 1 to 14 have none of the three below. Two unions and the tickets would not compile without them.
-
+// The text does not name PcrProperties: its union has no arm for it.
 tpm_enum! {
     pub enum TpmCap(u32, TpmUint32) {
         #[default]
@@ -116,6 +115,8 @@ tpm_enum! {
         Act = 0x0000_000a,
     }
 }
+
+// No kind has the two below. A union and the tickets would not compile without them.
 
 tpm_enum! {
     pub enum TpmHt(u8, TpmUint8) {

@@ -1,5 +1,5 @@
-//! Rebuilt, not the crate's. Attributes: any number of the width (docs/FORMAT.md, section 7). Kinds 1 to 14 read `TpmaObject` alone; the others
-//! are items and fields of unions that would not compile without them, with Part 2's widths.
+//! Rebuilt, not the crate's. Attributes: any number of the width (docs/FORMAT.md, section 7). No kind reads `TpmaNv` and `TpmaNvExp`; a union would
+//! not compile without them, and their widths are Part 2's.
 
 use crate::tpm_attributes;
 
@@ -9,5 +9,5 @@ tpm_attributes!(TpmaNvExp, u64, TpmUint64);
 tpm_attributes!(TpmaAlgorithm, u32, TpmUint32);
 tpm_attributes!(TpmaCc, u32, TpmUint32);
 tpm_attributes!(TpmaAct, u32, TpmUint32);
-// A command code: the text names the type and none of its values.
+// A command code: the text names the type and none of its values. That it is any number is docs/FORMAT.md's.
 tpm_attributes!(TpmCc, u32, TpmUint32);

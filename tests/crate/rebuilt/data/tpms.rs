@@ -2,9 +2,9 @@
 //! docs/FORMAT.md has them (sections 6 and 7); that no structure here moves an offset is a guess.
 
 use super::{
-    Tpm2bData, Tpm2bDigest, Tpm2bEccParameter, Tpm2bMaxNvBuffer, Tpm2bName, Tpm2bPublicKeyRsa, TpmAlgId, TpmEccCurve, TpmSt, TpmaAct,
+    Tpm2bData, Tpm2bDigest, Tpm2bEccParameter, Tpm2bMaxNvBuffer, Tpm2bName, Tpm2bPublicKeyRsa, TpmAlgId, TpmCap, TpmEccCurve, TpmSt, TpmaAct,
     TpmaAlgorithm, TpmaNv, TpmaNvExp, TpmiYesNo, TpmlPcrSelection, TpmtEccScheme, TpmtHa, TpmtKdfScheme, TpmtKeyedhashScheme, TpmtRsaScheme,
-    TpmtSymDefObject, TpmuAttest,
+    TpmtSymDefObject, TpmuAttest, TpmuCapabilities,
 };
 use crate::{
     TpmError, TpmField, TpmMarshal, TpmResult, TpmSized, TpmUnmarshal, TpmUnmarshalTagged, TpmWriter,
@@ -346,8 +346,6 @@ tpm_struct! {
     }
 }
 
-// Kinds 1 to 14 have none of what follows. The unions of capabilities and of NV areas would not compile without these six.
-
 tpm_struct! {
     #[derive(Debug, PartialEq, Eq, Clone, Copy, Default)]
     wire: TpmsAlgPropertyWire,
@@ -384,6 +382,43 @@ tpm_struct! {
         pub attributes: TpmaAct,
     }
 }
+
+#[derive(Debug, PartialEq, Eq, Clone)]
+pub struct TpmsCapabilityData {
+    pub capability: TpmCap,
+    pub data: TpmuCapabilities,
+}
+
+impl TpmSized for TpmsCapabilityData {
+    const SIZE: usize = TpmCap::SIZE + TpmuCapabilities::SIZE;
+    fn len(&self) -> usize {
+        self.capability.len() + self.data.len()
+    }
+}
+
+impl TpmMarshal for TpmsCapabilityData {
+    /// In the form of the text's tagged structures: the arm is tested ahead of the first byte (tpmt.rs:38).
+    fn marshal(&self, writer: &mut TpmWriter) -> TpmResult<()> {
+        if !self.data.matches_tag(self.capability) {
+            let value = u64::from(self.capability.value());
+            return Err(TpmError::Rebuilt { fault: Fault::Arm, offset: writer.len(), value, available: 0 });
+        }
+
+        self.capability.marshal(writer)?;
+        self.data.marshal(writer)
+    }
+}
+
+impl TpmUnmarshal for TpmsCapabilityData {
+    fn unmarshal(buffer: &[u8]) -> TpmResult<(Self, &[u8])> {
+        let (capability, buffer) = TpmCap::unmarshal(buffer)?;
+        let (data, buffer) = TpmuCapabilities::unmarshal_tagged(capability, buffer)?;
+
+        Ok((Self { capability, data }, buffer))
+    }
+}
+
+// No kind has what follows. The union of NV areas would not compile without these two.
 
 tpm_struct! {
     #[derive(Debug, PartialEq, Eq, Clone, Copy, Default)]

@@ -4,7 +4,7 @@ use native.Mathlib.Omega.{arith}
 use Rattle.wire.specs.Answers.{measureAnswer}
 use Rattle.wire.proofs.Rest.{told}
 use Rattle.wire.proofs.Stand.{bytes-of}
-use Rattle.lists.proofs.Lists.{item-ends}
+use Rattle.items.proofs.Items.{item-ends}
 use Rattle.lists.proofs.Items.{item-at, item-bad, item-lost, item-none}
 use Rattle.lists.proofs.item.item_at.Statement.{statement}
 use Rattle.lists.proofs.item.item_at.Tie as tie

@@ -6,8 +6,9 @@ use Rattle.records.proofs.kind.end_by_kind.Tie as tie
 pub end-by-kind-spec : {M : Type 1} → Rattle.records.proofs.kind.end_by_kind.Statement.statement M
 unfolding layoutOf kinds
 end-by-kind-spec = tie.close (tie.spec
-    (search needs) (search needs) (search needs) (search needs) (search needs) (search needs) (search needs) (search needs) (search needs) (search needs)
+    (search needs) (search needs) (search needs) (search needs) (search needs) (search needs) (search needs) (search needs) (search needs) (search needs) (search needs)
     (search needs) (search needs) (search needs) (search needs) (search needs) (search needs) (λ c. search as-kind) (λ c. search as-kind)
     (λ c. search as-kind) (λ c. search as-kind) (λ c. search as-kind) (λ c. search as-kind) (λ c. search as-kind) (λ c. search as-kind)
     (λ c. search as-kind) (λ c. search as-kind) (λ c. search as-kind) (λ c. search as-kind) (λ c. search as-kind) (λ c. search as-kind)
+    (λ c. search as-kind)
     (λ c. rw (c .bad-kind .ensures, c .before .wide-byte .ensures) (no-kind _ _ _ (none-of _ (c .before .before .match .rest)))))

@@ -1,0 +1,3 @@
+pub mod Arms
+pub mod Items
+pub mod Once
