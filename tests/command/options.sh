@@ -26,7 +26,7 @@ check 'the help has each kind of docs/FORMAT.md' '
     sed -n "s/^| \([0-9]*\) | \(TPM[A-Z_]*\) .*/\1 \2/p" "$root/docs/FORMAT.md" | {
         count=0
         while read -r line; do count=$((count + 1)) && grep -q "^ *$line\$" "$want/help" || { echo "no $line"; exit 1; }; done
-        [ "$count" -eq 14 ]
+        [ "$count" -eq 15 ]
     }'
 check 'the help has each refusal of docs/FORMAT.md' '
     sed -n "/^## 2/,/^## 3/s/^| \([0-9]*\) | \([A-Z][A-Za-z]*\) .*/\1 \2/p" "$root/docs/FORMAT.md" | {

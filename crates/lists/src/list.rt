@@ -68,17 +68,6 @@ pub fn list_end(which: ListOf, s: &[u8], at: usize) -> Measure
     }
 }
 
-// Where the list of all of xs ends. Selections are asked for by name: then that reader is put in place, and a quote is measured and written as fast
-// as where there is no other list.
-fn end_in(which: ListOf, xs: &[u8]) -> Measure
-    ensures { λ r. ⌜ measureAnswer r ≡ list (mostItems which) (λ s a. read (itemLayout which) s a) (now (xs .entry)) 0 ⌝ }
-{
-    match which {
-        ListOf::PcrSelection => list_end(ListOf::PcrSelection, xs, 0),
-        _ => list_end(which, xs, 0),
-    }
-}
-
 // The place behind a list at `at`, or what is wrong with it. It is walked over with the reading rules.
 pub(crate) fn judge_list(which: ListOf, span: Span, src: &[u8], at: usize) -> Measure
     requires { ⌜ at ≤ 0x1000000 ⌝ }
@@ -86,7 +75,7 @@ pub(crate) fn judge_list(which: ListOf, span: Span, src: &[u8], at: usize) -> Me
 {
     match span.measure(src, at) {
         Measure::Size(len) => {
-            match end_in(which, span.part(src)) {
+            match list_end(which, span.part(src), 0) {
                 Measure::Size(e) => {
                     let end = at + e;
                     if e == len {

@@ -10,26 +10,26 @@ use Rattle.lists.proofs.list.judge_list.Statement.{statement}
 use Rattle.lists.proofs.list.judge_list.Tie as tie
 
 add-end : tie.Need-add-end
-add-end c = omega (arith, list-near (c .before .before .before .before .before .before .before .before .before .before .args .which) _ (told measureAnswer (c .before .e .given .1) (c .before .before .before .end-in .ensures)))
+add-end c = omega (arith, list-near (c .before .before .before .before .before .before .before .before .before .before .args .which) _ (told measureAnswer (c .before .e .given .1) (c .before .before .before .list-end .ensures)))
 
 returns : tie.Need-returns
-returns c = let l = told measureAnswer (c .before .before .e .given .1) (c .before .before .before .before .end-in .ensures) in
+returns c = let l = told measureAnswer (c .before .before .e .given .1) (c .before .before .before .before .list-end .ensures) in
     (list-good (c .before .before .before .before .before .before .before .before .before .before .before .args .which) _ _ _ (told measureAnswer (c .before .before .before .before .before .before .before .len .given .1) (c .before .before .before .before .before .before .before .before .before .measure .ensures)) (c .before .before .before .before .before .part .ensures .0) l (c .if1 .taken), omega (arith, list-near (c .before .before .before .before .before .before .before .before .before .before .before .args .which) _ l))
 
 sub-left : tie.Need-sub-left
 sub-left c = let src = c .before .before .before .before .before .before .before .before .before .before .before .args .src .now in
     let p = told measureAnswer (c .before .before .before .before .before .before .before .len .given .1) (c .before .before .before .before .before .before .before .before .before .measure .ensures) in
     let bytes = part-bytes src _ _ 0 (c .before .before .before .before .before .part .ensures .0) (bytes-of src (λ i. (c .before .before .before .before .before .before .before .before .before .before .shared-slice-known .given i) .fits)) in
-    omega (arith, list-inside (c .before .before .before .before .before .before .before .before .before .before .before .args .which) _ bytes (told measureAnswer (c .before .before .e .given .1) (c .before .before .before .before .end-in .ensures)), list-size (c .before .before .before .before .before .before .before .before .before .before .before .args .which) _ _ _ p (c .before .before .before .before .before .part .ensures .0))
+    omega (arith, list-inside (c .before .before .before .before .before .before .before .before .before .before .before .args .which) _ bytes (told measureAnswer (c .before .before .e .given .1) (c .before .before .before .before .list-end .ensures)), list-size (c .before .before .before .before .before .before .before .before .before .before .before .args .which) _ _ _ p (c .before .before .before .before .before .part .ensures .0))
 
 add-place : tie.Need-add-place
-add-place c = omega (arith, list-place (c .before .before .before .before .before .before .before .before .before .before .before .args .which) _ (told measureAnswer (c .before .before .f .given .1) (c .before .before .before .before .end-in .ensures)))
+add-place c = omega (arith, list-place (c .before .before .before .before .before .before .before .before .before .before .before .args .which) _ (told measureAnswer (c .before .before .f .given .1) (c .before .before .before .before .list-end .ensures)))
 
 returns-2 : tie.Need-returns-2
-returns-2 c = (rw (c .trailing .ensures) (list-trailing (c .before .before .before .before .before .before .before .before .before .before .before .before .args .which) _ _ _ (told measureAnswer (c .before .before .before .before .before .before .before .before .len .given .1) (c .before .before .before .before .before .before .before .before .before .before .measure .ensures)) (c .before .before .before .before .before .before .part .ensures .0) (told measureAnswer (c .before .before .before .e .given .1) (c .before .before .before .before .before .end-in .ensures)) (c .before .if1 .left)), tt)
+returns-2 c = (rw (c .trailing .ensures) (list-trailing (c .before .before .before .before .before .before .before .before .before .before .before .before .args .which) _ _ _ (told measureAnswer (c .before .before .before .before .before .before .before .before .len .given .1) (c .before .before .before .before .before .before .before .before .before .before .measure .ensures)) (c .before .before .before .before .before .before .part .ensures .0) (told measureAnswer (c .before .before .before .e .given .1) (c .before .before .before .before .before .list-end .ensures)) (c .before .if1 .left)), tt)
 
 returns-3 : tie.Need-returns-3
-returns-3 c = (rw (c .placed-at .ensures) (list-no (c .before .before .before .before .before .before .before .before .before .before .before .before .args .which) _ _ _ (told measureAnswer (c .before .before .before .before .before .before .before .before .len .given .1) (c .before .before .before .before .before .before .before .before .before .before .measure .ensures)) (c .before .before .before .before .before .before .part .ensures .0) (told measureAnswer (c .before .before .before .f .given .1) (c .before .before .before .before .before .end-in .ensures))), tt)
+returns-3 c = (rw (c .placed-at .ensures) (list-no (c .before .before .before .before .before .before .before .before .before .before .before .before .args .which) _ _ _ (told measureAnswer (c .before .before .before .before .before .before .before .before .len .given .1) (c .before .before .before .before .before .before .before .before .before .before .measure .ensures)) (c .before .before .before .before .before .before .part .ensures .0) (told measureAnswer (c .before .before .before .f .given .1) (c .before .before .before .before .before .list-end .ensures))), tt)
 
 returns-4 : tie.Need-returns-4
 returns-4 c = (list-out (c .before .before .before .before .before .args .which) _ _ _ (told measureAnswer (c .before .f2 .given .1) (c .before .before .before .measure .ensures)), tt)
