@@ -23,10 +23,10 @@ try '--help to a full device' 2 nothing 'cabinet-list: standard output: No space
 try '--help to a pipe that nobody reads' 2 nothing 'cabinet-list: standard output: Broken pipe' \
     '{ status=0; sleep 0.3; "$list" --help || status=$?; echo "$status" >"$work/status"; } | true; exit "$(cat "$work/status")"'
 check 'the help has each kind of docs/FORMAT.md' '
-    sed -n "s/^| \([0-9]*\) | \(TPM[A-Z_]*\) .*/\1 \2/p" "$root/docs/FORMAT.md" | {
+    sed -n "s/^| \([0-9]*\) | \(TPM[A-Z_0-9]*\) .*/\1 \2/p" "$root/docs/FORMAT.md" | {
         count=0
         while read -r line; do count=$((count + 1)) && grep -q "^ *$line\$" "$want/help" || { echo "no $line"; exit 1; }; done
-        [ "$count" -eq 15 ]
+        [ "$count" -eq 20 ]
     }'
 check 'the help has each refusal of docs/FORMAT.md' '
     sed -n "/^## 2/,/^## 3/s/^| \([0-9]*\) | \([A-Z][A-Za-z]*\) .*/\1 \2/p" "$root/docs/FORMAT.md" | {
@@ -47,21 +47,23 @@ wanted kinds public srk public srk
 try '--kind, two files' 0 kinds '' 'cd "$records" && "$list" --kind 11 public public'
 try '--kind, the last one counts' 0 aes '' '"$list" --kind 11 --kind 2 "$records/aes"'
 number=0
-for kind in HA SYM_DEF KDF_SCHEME KEYEDHASH_SCHEME SIG_SCHEME RSA_SCHEME ECC_SCHEME RSA_DECRYPT PUBLIC_PARMS SIGNATURE PUBLIC SENSITIVE TPMS_ATTEST TPML_PCR_SELECTION TPMS_CAPABILITY_DATA; do
+for kind in HA SYM_DEF KDF_SCHEME KEYEDHASH_SCHEME SIG_SCHEME RSA_SCHEME ECC_SCHEME RSA_DECRYPT PUBLIC_PARMS SIGNATURE PUBLIC SENSITIVE TPMS_ATTEST TPML_PCR_SELECTION TPMS_CAPABILITY_DATA NV_PUBLIC_2 TK_CREATION TK_VERIFIED TK_HASHCHECK TK_AUTH; do
     number=$((number + 1))
     case $kind in TPM*) ;; *) kind=TPMT_$kind ;; esac
     field=2
     case $number in 13 | 14 | 15) field=4 ;; esac
-    echo "kind $number refused 1 at 0 value $field had 1" >"$want/short"
-    try "--kind $number" 1 short '' '"$list" --kind "$number" "$records/byte"'
-    try "--kind $kind is $number" 1 short '' '"$list" --kind "$kind" "$records/byte"'
+    echo "kind $number refused 1 at 0 value $field had 1" >"$want/refused"
+    # The first field of kind 16 is one byte, and 0 is no handle type.
+    case $number in 16) echo 'kind 16 refused 2 at 0 value 0' >"$want/refused" ;; esac
+    try "--kind $number" 1 refused '' '"$list" --kind "$number" "$records/byte"'
+    try "--kind $kind is $number" 1 refused '' '"$list" --kind "$kind" "$records/byte"'
 done
-for kind in 0 16 255 011 -1 1.0 ' 11' TPMT_public TPM2B_PUBLIC '*' '' 'two
+for kind in 0 21 255 011 -1 1.0 ' 11' TPMT_public TPM2B_PUBLIC '*' '' 'two
 lines'; do
     try "--kind '$(printf %s "$kind" | tr '\n' '?')'" 2 nothing 'cabinet-list: --kind *: no such kind (cabinet-list --help *)' '"$list" --kind "$kind" "$records/public"'
     try "--kind='$(printf %s "$kind" | tr '\n' '?')'" 2 nothing 'cabinet-list: --kind *: no such kind (cabinet-list --help *)' '"$list" "--kind=$kind" "$records/public"'
 done
-try '--kind, a wrong one behind a right one' 2 nothing 'cabinet-list: --kind 16: no such kind*' '"$list" --kind 11 --kind 16 "$records/public"'
+try '--kind, a wrong one behind a right one' 2 nothing 'cabinet-list: --kind 21: no such kind*' '"$list" --kind 11 --kind 21 "$records/public"'
 try '--kind without a kind' 2 nothing 'cabinet-list: --kind: no kind is given*' '"$list" "$records/public" --kind'
 
 try '--sized' 0 srk '' '"$list" --kind 11 --sized <"$records/sized"'

@@ -26,7 +26,7 @@ static void count_one(struct tally *tally, int kind, struct judgement judgement)
     counts->inputs++;
     counts->both_read += judgement.verdict == BOTH_READ;
     counts->both_refuse += judgement.verdict == BOTH_REFUSE;
-    if (judgement.verdict == BY_A_RULE)
+    if (judgement.verdict == BY_A_RULE || judgement.verdict == NOT_COMPARED)
         counts->by_rule[judgement.rule]++;
     tally->unexplained += judgement.verdict == UNEXPLAINED;
 }
@@ -51,20 +51,26 @@ uint64_t judge_batch(const struct batch *batch, int left_out, struct tally *tall
     return ++tally->unexplained - before;
 }
 
-static uint64_t add_kinds(const struct tally *tally, struct kind_tally *sum)
+static void add_kinds(const struct tally *tally, struct kind_tally *sum)
 {
-    uint64_t by_rules = 0;
     for (int kind = 1; kind <= KINDS; kind++) {
         const struct kind_tally *counts = &tally->kinds[kind];
         sum->inputs += counts->inputs;
         sum->both_read += counts->both_read;
         sum->both_refuse += counts->both_refuse;
-        for (int rule = 0; rule < rule_count; rule++) {
+        for (int rule = 0; rule < rule_count; rule++)
             sum->by_rule[rule] += counts->by_rule[rule];
-            by_rules += counts->by_rule[rule];
-        }
     }
-    return by_rules;
+}
+
+// How many were counted under rules by which the two sides differ, or under those by which libtss2-mu is not asked.
+static uint64_t by_rules(const struct kind_tally *counts, bool asked)
+{
+    uint64_t inputs = 0;
+    for (int rule = 0; rule < rule_count; rule++)
+        if ((rules[rule].way != NOT_ASKED) == asked)
+            inputs += counts->by_rule[rule];
+    return inputs;
 }
 
 static void print_counts(const char *what, const struct kind_tally *counts, bool with_reasons)
@@ -81,14 +87,15 @@ void print_tally(const struct tally *tally, uint64_t different)
 {
     char what[80];
     struct kind_tally sum = {0};
-    uint64_t by_rules = add_kinds(tally, &sum);
+    add_kinds(tally, &sum);
     for (int kind = 1; kind <= KINDS; kind++) {
         snprintf(what, sizeof what, "kind %d, %s", kind, reference_name(kind));
         print_counts(what, &tally->kinds[kind], false);
     }
     print_counts("all kinds", &sum, true);
-    printf("compared %llu, of which %llu are different: alike %llu, differing by a rule %llu, unexplained %llu\n",
+    printf("%llu inputs, of which %llu are different: alike %llu, differing by a rule %llu, not compared %llu, "
+           "unexplained %llu\n",
         (unsigned long long)sum.inputs, (unsigned long long)different,
-        (unsigned long long)(sum.both_read + sum.both_refuse), (unsigned long long)by_rules,
-        (unsigned long long)tally->unexplained);
+        (unsigned long long)(sum.both_read + sum.both_refuse), (unsigned long long)by_rules(&sum, true),
+        (unsigned long long)by_rules(&sum, false), (unsigned long long)tally->unexplained);
 }

@@ -54,26 +54,41 @@ static struct judgement unexplained(const char *why)
     return (struct judgement) {UNEXPLAINED, NO_RULE, why};
 }
 
-struct judgement judge(const struct input *input, struct listing listing, int left_out)
+static bool is_asked(int rule)
 {
-    static struct reply ours, theirs, expected;
-    static struct text text;
-    if (!reply_of_listing(listing, &ours))
-        return unexplained("our answer has not the form of a listing");
+    return rule == NO_RULE || rules[rule].way != NOT_ASKED;
+}
+
+// Our answer beside libtss2-mu's.
+static struct judgement compared(const struct input *input, const struct reply *ours, int left_out)
+{
+    static struct reply theirs, expected;
+    int rule = expected_reply(input, left_out, &expected);
+    if (!is_asked(rule))
+        return (struct judgement) {NOT_COMPARED, rule, NULL};
     if (!reference_reply(input, &theirs))
         return unexplained("libtss2-mu's two functions for this kind answer differently");
-    int rule = expected_reply(input, left_out, &expected);
-    bool alike = replies_alike(&ours, &theirs);
+    bool alike = replies_alike(ours, &theirs);
     if (!alike && rule == NO_RULE)
         return unexplained("the answers differ, and no rule speaks");
     if (!replies_alike(&theirs, &expected))
         return unexplained("libtss2-mu answers otherwise than the layouts and the rules say");
-    expected_listing(input, &text);
-    if (!is_text(listing, &text))
-        return unexplained("our answer is not the listing that the layouts give");
     if (!alike)
         return (struct judgement) {BY_A_RULE, rule, NULL};
-    return (struct judgement) {ours.read ? BOTH_READ : BOTH_REFUSE, NO_RULE, NULL};
+    return (struct judgement) {ours->read ? BOTH_READ : BOTH_REFUSE, NO_RULE, NULL};
+}
+
+struct judgement judge(const struct input *input, struct listing listing, int left_out)
+{
+    static struct reply ours;
+    static struct text text;
+    if (!reply_of_listing(listing, &ours))
+        return unexplained("our answer has not the form of a listing");
+    struct judgement judgement = compared(input, &ours, left_out);
+    expected_listing(input, &text);
+    if (judgement.verdict != UNEXPLAINED && !is_text(listing, &text))
+        return unexplained("our answer is not the listing that the layouts give");
+    return judgement;
 }
 
 void print_unexplained(const struct input *input, struct listing listing, const char *why)
@@ -83,12 +98,16 @@ void print_unexplained(const struct input *input, struct listing listing, const 
     text_clear(&text);
     text_add(&text, "UNEXPLAINED: %s\nkind %d (%s), input ", why, input->kind, reference_name(input->kind));
     text_add_hex(&text, input->bytes, input->size);
-    reference_reply(input, &theirs);
     text_add(&text, "\nlibtss2-mu: ");
-    text_add_reply(&text, &theirs);
     int rule = expected_reply(input, NO_RULE, &expected);
-    text_add(&text, "by the rules (%s) it should be: ", rule == NO_RULE ? "none met" : rules[rule].name);
-    text_add_reply(&text, &expected);
+    if (is_asked(rule)) {
+        reference_reply(input, &theirs);
+        text_add_reply(&text, &theirs);
+        text_add(&text, "by the rules (%s) it should be: ", rule == NO_RULE ? "none met" : rules[rule].name);
+        text_add_reply(&text, &expected);
+    } else {
+        text_add(&text, "not asked (%s)\n", rules[rule].name);
+    }
     printf("%sours:\n%.*s", text.chars, (int)listing.size, listing.chars);
     expected_listing(input, &text);
     printf("by the layouts it should be:\n%s\n", text.chars);

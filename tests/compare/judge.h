@@ -5,11 +5,11 @@
 #include "ours.h"
 #include "rules.h"
 
-enum verdict { BOTH_READ, BOTH_REFUSE, BY_A_RULE, UNEXPLAINED };
+enum verdict { BOTH_READ, BOTH_REFUSE, BY_A_RULE, NOT_COMPARED, UNEXPLAINED };
 
 struct judgement {
     enum verdict verdict;
-    int rule; // the first that was met, for BY_A_RULE
+    int rule; // the first that was met, for BY_A_RULE and NOT_COMPARED
     const char *why; // for UNEXPLAINED
 };
 

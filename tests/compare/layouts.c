@@ -9,6 +9,7 @@
 #define ITEMS_OF(item, most) {ITEMS, most, item, NULL}
 #define PART_OF(part) {PART, 0, part, NULL}
 #define UNION_OF(arms) {UNION, 0, NULL, arms}
+#define TICKET_OF(ticket) {{TAG, ticket, NULL, NULL}, CODE_OF(HIERARCHY), BUFFER_OF(DIGEST_BUFFER), STOP}
 #define ROW(...) (const struct field[]) {__VA_ARGS__, STOP}
 #define LAST {0, NULL}
 
@@ -30,6 +31,8 @@ enum capability {
     ECC_CURVES = 8, AUTH_POLICIES = 9, ACT = 10
 };
 
+enum handle_type { NV_INDEX = 0x01, EXTERNAL_NV = 0x11, PERMANENT_NV = 0x12 };
+
 struct range {
     unsigned from, to;
 };
@@ -39,6 +42,12 @@ static const struct range algorithms[] = {
 static const struct range curves[] = {{0x00, 0x05}, {0x10, 0x11}, {0x20, 0x20}, {0x30, 0x32}, {0x40, 0x41}, {1, 0}};
 static const struct range attestations[] = {{0x8014, 0x801A}, {0x801C, 0x801C}, {1, 0}};
 static const struct range capabilities[] = {{0, 10}, {1, 0}};
+static const struct range handle_types[] = {{0x01, 0x01}, {0x11, 0x12}, {1, 0}};
+static const struct range hierarchies[] = {
+    {0x40000001, 0x40000001}, {0x40000007, 0x40000007}, {0x4000000B, 0x4000000C}, {1, 0}};
+static const struct range ticket_tags[][3] = {
+    [CREATION_TICKET] = {{0x8021, 0x8021}, {1, 0}}, [VERIFIED_TICKET] = {{0x8022, 0x8022}, {1, 0}},
+    [HASHCHECK_TICKET] = {{0x8024, 0x8024}, {1, 0}}, [AUTH_TICKET] = {{0x8023, 0x8023}, {0x8025, 0x8025}, {1, 0}}};
 
 const struct field nothing[] = {STOP};
 const struct field key_bits_and_mode[] = {NUMBER_OF(2), CODE_OF(MODE), STOP};
@@ -133,6 +142,14 @@ const struct arm capability_arms[] = {
     {ECC_CURVES, ROW(ITEMS_OF(curve_item, 128))}, {AUTH_POLICIES, ROW(ITEMS_OF(policy_item, 16))},
     {ACT, ROW(ITEMS_OF(act_item, 16))}, LAST};
 
+static const struct field nv_area[] = {
+    NUMBER_OF(4), CODE_OF(NAME_ALGORITHM), NUMBER_OF(4), BUFFER_OF(DIGEST_BUFFER), NUMBER_OF(2), STOP};
+static const struct field external_nv_area[] = {
+    NUMBER_OF(4), CODE_OF(NAME_ALGORITHM), NUMBER_OF(8), BUFFER_OF(DIGEST_BUFFER), NUMBER_OF(2), STOP};
+
+const struct arm nv_arms[] = {
+    {NV_INDEX, nv_area}, {EXTERNAL_NV, external_nv_area}, {PERMANENT_NV, nv_area}, LAST};
+
 static const struct field parameters[] = {CODE_OF(SELECTOR), UNION_OF(parameter_arms), STOP};
 static const struct field signature[] = {CODE_OF(SELECTOR), UNION_OF(signature_arms), STOP};
 static const struct field public_area[] = {
@@ -144,13 +161,18 @@ static const struct field attestation[] = {
     {MAGIC, 0, NULL, NULL}, CODE_OF(ATTESTATION), BUFFER_OF(NAME), BUFFER_OF(DATA), PART_OF(clock_info), NUMBER_OF(8),
     UNION_OF(attested_arms), STOP};
 static const struct field capability_data[] = {CODE_OF(CAPABILITY), UNION_OF(capability_arms), STOP};
+static const struct field typed_nv_area[] = {CODE_OF(HANDLE_TYPE), UNION_OF(nv_arms), STOP};
+static const struct field creation_ticket[] = TICKET_OF(CREATION_TICKET);
+static const struct field verified_ticket[] = TICKET_OF(VERIFIED_TICKET);
+static const struct field hashcheck_ticket[] = TICKET_OF(HASHCHECK_TICKET);
+static const struct field auth_ticket[] = TICKET_OF(AUTH_TICKET);
 
 const struct field *layout_of(int kind)
 {
     static const struct field *const kinds[KINDS + 1] = {
         NULL, tagged_digest, cipher, kdf_scheme, keyedhash_scheme, signing_scheme, asymmetric_scheme, asymmetric_scheme,
         asymmetric_scheme, parameters, signature, public_area, sensitive_area, attestation, pcr_selections,
-        capability_data};
+        capability_data, typed_nv_area, creation_ticket, verified_ticket, hashcheck_ticket, auth_ticket};
     return kinds[kind];
 }
 
@@ -163,7 +185,7 @@ const struct field *arm_for(const struct arm *arms, unsigned selector)
 
 bool chooses_an_arm(enum role role)
 {
-    return role == SELECTOR || role == ATTESTATION || role == CAPABILITY;
+    return role == SELECTOR || role == ATTESTATION || role == CAPABILITY || role == HANDLE_TYPE;
 }
 
 static const struct range *list_of(enum role role)
@@ -175,22 +197,35 @@ static const struct range *list_of(enum role role)
         return attestations;
     case CAPABILITY:
         return capabilities;
+    case HANDLE_TYPE:
+        return handle_types;
+    case HIERARCHY:
+        return hierarchies;
     default:
         return algorithms;
     }
 }
 
-bool listed(enum role role, unsigned code)
+static bool is_within(const struct range *range, unsigned value)
 {
-    const struct range *range = list_of(role);
-    while (range->from <= range->to && !(range->from <= code && code <= range->to))
+    while (range->from <= range->to && !(range->from <= value && value <= range->to))
         range++;
     return range->from <= range->to;
 }
 
+bool listed(enum role role, unsigned code)
+{
+    return is_within(list_of(role), code);
+}
+
+bool is_tag(enum ticket ticket, unsigned tag)
+{
+    return is_within(ticket_tags[ticket], tag);
+}
+
 size_t code_width(enum role role)
 {
-    return role == CAPABILITY ? 4 : 2;
+    return role == HANDLE_TYPE ? 1 : role == CAPABILITY || role == HIERARCHY ? 4 : 2;
 }
 
 size_t limit_of(enum buffer buffer)

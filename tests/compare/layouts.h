@@ -6,16 +6,20 @@
 #include <stddef.h>
 #include <stdint.h>
 
-enum { KINDS = 15, LARGEST_INPUT = 4096 };
+enum { KINDS = 20, LARGEST_INPUT = 4096 };
 
 static const uint32_t MAGIC_NUMBER = 0xFF544347;
 
-enum what { END, NUMBER, CODE, YES_NO, MAGIC, BUFFER, PLAIN, ITEMS, PART, UNION };
+enum what { END, NUMBER, CODE, YES_NO, MAGIC, TAG, BUFFER, PLAIN, ITEMS, PART, UNION };
 
-// What a code is for. The first three choose arms.
+// What a code is for. The first four choose arms.
 enum role {
-    SELECTOR, ATTESTATION, CAPABILITY, HASH, KDF, MODE, CURVE, NAME_ALGORITHM, AUDITED, BANK, ALGORITHM_ITEM
+    SELECTOR, ATTESTATION, CAPABILITY, HANDLE_TYPE, HASH, KDF, MODE, CURVE, NAME_ALGORITHM, AUDITED, BANK,
+    ALGORITHM_ITEM, HIERARCHY
 };
+
+// Which ticket a tag is for.
+enum ticket { CREATION_TICKET, VERIFIED_TICKET, HASHCHECK_TICKET, AUTH_TICKET };
 
 // A PCR selection's size and bits are a buffer whose length has one byte.
 enum buffer {
@@ -27,7 +31,7 @@ struct arm;
 
 struct field {
     enum what what;
-    int of; // a number's width, a code's role, which buffer, a plain digest's size, the most ITEMS
+    int of; // a number's width, a code's role, a tag's ticket, which buffer, a plain digest's size, the most ITEMS
     const struct field *part; // of a PART, and each item's of ITEMS
     const struct arm *arms; // of a UNION; chosen by the selector of the same row of fields
 };
@@ -38,7 +42,7 @@ struct arm {
 };
 
 extern const struct arm digest_arms[], cipher_arms[], kdf_arms[], keyedhash_arms[], signing_arms[], asymmetric_arms[],
-    parameter_arms[], unique_arms[], sensitive_arms[], signature_arms[], attested_arms[], capability_arms[];
+    parameter_arms[], unique_arms[], sensitive_arms[], signature_arms[], attested_arms[], capability_arms[], nv_arms[];
 
 // Rows of fields that arms are made of.
 extern const struct field nothing[], key_bits_and_mode[];
@@ -51,6 +55,7 @@ const struct field *layout_of(int kind);
 const struct field *arm_for(const struct arm *arms, unsigned selector);
 bool chooses_an_arm(enum role role);
 bool listed(enum role role, unsigned code);
+bool is_tag(enum ticket ticket, unsigned tag);
 size_t code_width(enum role role);
 size_t limit_of(enum buffer buffer);
 size_t length_width(enum buffer buffer);

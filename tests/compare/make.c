@@ -97,7 +97,8 @@ static void damage(struct input *input, struct random *random)
 static int kind_of(uint64_t index)
 {
     static const int turn[] = {
-        1, 2, 3, 4, 5, 6, 7, 8, 9, 10, 11, 12, 13, 14, 15, 9, 10, 11, 12, 13, 14, 15, 11, 13, 15, 11, 13, 15};
+        1, 2, 3, 4, 5, 6, 7, 8, 9, 10, 11, 12, 13, 14, 15, 16, 17, 18, 19, 20, 9, 10, 11, 12, 13, 14, 15, 16, 11, 13, 15,
+        11, 13, 15};
     return turn[index % (sizeof turn / sizeof *turn)];
 }
 

@@ -38,12 +38,17 @@ static void put_bytes(struct maker *maker, size_t size)
     input->size += there;
 }
 
-// A listed code; but for attestation types, no list goes past 44.
+// Where the codes of a list begin; but for attestation types, none goes on for more than 44.
+static unsigned first_code(enum role role)
+{
+    return role == HIERARCHY ? 0x40000000 : 0;
+}
+
 static unsigned listed_code(struct maker *maker, enum role role)
 {
     unsigned code;
     do
-        code = (unsigned)random_below(maker->random, 0x45);
+        code = first_code(role) + (unsigned)random_below(maker->random, 0x45);
     while (!listed(role, code));
     return code;
 }
@@ -61,23 +66,24 @@ static unsigned any_code(struct maker *maker)
     }
 }
 
-// Listed, also without an arm; near the list; a listed one with a bit more; or anywhere.
-static unsigned any_capability(struct maker *maker)
+// Of 1 or 4 bytes: listed, also without an arm; near the list; a listed one with a bit changed; or anywhere.
+static unsigned any_code_of(struct maker *maker, enum role role)
 {
+    size_t bits = 8 * code_width(role);
     switch (random_below(maker->random, 4)) {
     case 0:
-        return (unsigned)random_number(maker->random);
+        return (unsigned)random_below(maker->random, (size_t)1 << bits);
     case 1:
-        return listed_code(maker, CAPABILITY) ^ 1u << random_below(maker->random, 32);
+        return listed_code(maker, role) ^ 1u << random_below(maker->random, bits);
     default:
-        return (unsigned)random_below(maker->random, 0x14);
+        return first_code(role) + (unsigned)random_below(maker->random, 0x14);
     }
 }
 
 static unsigned faulty_code(struct maker *maker, enum role role)
 {
-    if (role == CAPABILITY)
-        return any_capability(maker);
+    if (code_width(role) != 2)
+        return any_code_of(maker, role);
     return chooses_an_arm(role) && one_in(maker->random, 2) ? listed_code(maker, SELECTOR) : any_code(maker);
 }
 
@@ -159,6 +165,17 @@ static void make_yes_no(struct maker *maker)
     uint64_t good = random_below(maker->random, 2);
     uint64_t bad = random_below(maker->random, 256);
     make_value(maker, good, bad, 1);
+}
+
+// Another tag is one of another ticket's, one near them, or anything.
+static void make_tag(struct maker *maker, enum ticket ticket)
+{
+    uint64_t good, bad;
+    do
+        good = random_between(maker->random, 0x8021, 0x8025);
+    while (!is_tag(ticket, (unsigned)good));
+    bad = one_in(maker->random, 4) ? random_below(maker->random, 0x10000) : random_between(maker->random, 0x8020, 0x8028);
+    make_value(maker, good, bad, 2);
 }
 
 // At or past the limit, or at a limit of another buffer.
@@ -253,7 +270,7 @@ static void make_union(struct maker *maker, const struct field *field, unsigned 
 {
     const struct field *arm = arm_for(field->arms, selector);
     int rule = maker->style.by_rules ? rule_at(field, selector, NO_RULE) : NO_RULE;
-    if (rule != NO_RULE && !rules[rule].refuses)
+    if (rule != NO_RULE && rules[rule].way == READS_ON)
         arm = rules[rule].arm;
     if (arm != NULL)
         make_row(maker, arm);
@@ -269,6 +286,9 @@ static void make_field(struct maker *maker, const struct field *field, unsigned 
         break;
     case MAGIC:
         make_value(maker, MAGIC_NUMBER, random_number(maker->random), 4);
+        break;
+    case TAG:
+        make_tag(maker, (enum ticket)field->of);
         break;
     case BUFFER:
         make_buffer(maker, field);

@@ -10,7 +10,7 @@ enum { NO_FAULT = 0 };
 struct style {
     size_t one_in; // of the fields that can, one in so many is made faulty; or NO_FAULT
     size_t at; // the field, counted from 1, that is made faulty; or NO_FAULT
-    bool by_rules; // with no selector or count at which the two sides part, or with one, and then libtss2-mu's arm
+    bool by_rules; // with no selector or count at which a rule speaks, or with one, and libtss2-mu's arm if it has one
 };
 
 // Answers how many of its fields could be faulty.

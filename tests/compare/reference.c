@@ -36,6 +36,26 @@ READER(TPMT_SENSITIVE)
 READER(TPMS_ATTEST)
 READER(TPML_PCR_SELECTION)
 READER(TPMS_CAPABILITY_DATA)
+READER(TPMS_NV_PUBLIC)
+READER(TPMT_TK_CREATION)
+READER(TPMT_TK_VERIFIED)
+READER(TPMT_TK_HASHCHECK)
+READER(TPMT_TK_AUTH)
+
+// An NV area behind a handle type, which libtss2-mu's structure has not: it is passed over, and stands in front again.
+static void read_nv_area(const struct input *input, struct reply *reply)
+{
+    static struct input area;
+    area.size = input->size > 0 ? input->size - 1 : 0;
+    memcpy(area.bytes, input->bytes + 1, area.size);
+    read_TPMS_NV_PUBLIC(&area, reply);
+    if (!reply->read)
+        return;
+    memmove(reply->again + 1, reply->again, reply->again_size);
+    reply->again[0] = input->bytes[0];
+    reply->again_size++;
+    reply->consumed++;
+}
 
 struct reference {
     const char *name;
@@ -61,6 +81,11 @@ static const struct reference references[KINDS + 1] = {
     {"TPMS_ATTEST", read_TPMS_ATTEST, NULL},
     {"TPML_PCR_SELECTION", read_TPML_PCR_SELECTION, NULL},
     {"TPMS_CAPABILITY_DATA", read_TPMS_CAPABILITY_DATA, NULL},
+    {"TPMS_NV_PUBLIC behind 01 and behind 12", read_nv_area, NULL},
+    {"TPMT_TK_CREATION", read_TPMT_TK_CREATION, NULL},
+    {"TPMT_TK_VERIFIED", read_TPMT_TK_VERIFIED, NULL},
+    {"TPMT_TK_HASHCHECK", read_TPMT_TK_HASHCHECK, NULL},
+    {"TPMT_TK_AUTH", read_TPMT_TK_AUTH, NULL},
 };
 
 void reference_start(void)

@@ -61,6 +61,16 @@ static bool algorithm_in_a_list(const struct field *field, uint64_t value)
     return is_unlisted(field, ALGORITHM_ITEM, value);
 }
 
+static bool hierarchy(const struct field *field, uint64_t value)
+{
+    return is_unlisted(field, HIERARCHY, value);
+}
+
+static bool ticket_tag(const struct field *field, uint64_t value)
+{
+    return field->what == TAG && !is_tag((enum ticket)field->of, (unsigned)value);
+}
+
 static bool magic(const struct field *field, uint64_t value)
 {
     return field->what == MAGIC && value != MAGIC_NUMBER;
@@ -176,46 +186,60 @@ static bool nv_digest(const struct field *field, uint64_t value)
     return is_selector(field, attested_arms, value, 0x801C);
 }
 
+static bool external_nv(const struct field *field, uint64_t value)
+{
+    return is_selector(field, nv_arms, value, 0x11);
+}
+
+static bool handle_type(const struct field *field, uint64_t value)
+{
+    return is_unlisted(field, HANDLE_TYPE, value);
+}
+
 // Not the format's: a list of tags, each with a PCR size and bits.
 static const struct field pcr_property_item[] = {
     {NUMBER, 4, NULL, NULL}, {BUFFER, PCR_BITS, NULL, NULL}, {END, 0, NULL, NULL}};
 static const struct field pcr_properties[] = {{ITEMS, 84, pcr_property_item, NULL}, {END, 0, NULL, NULL}};
 
 const struct rule rules[] = {
-    {"hash-not-judged", "it takes any hash code in a scheme, a signature or the cipher Xor", hash, false, NULL},
-    {"kdf-not-judged", "it takes any KDF code in the keyed hash scheme's Xor", kdf, false, NULL},
-    {"mode-not-judged", "it takes any mode of a cipher", mode, false, NULL},
-    {"curve-not-judged", "it takes any curve", curve, false, NULL},
-    {"name-algorithm-not-judged", "it takes any name algorithm", name_algorithm, false, NULL},
-    {"audited-not-judged", "it takes any algorithm in a command audit", audited, false, NULL},
-    {"bank-not-judged", "it takes any PCR bank", bank, false, NULL},
-    {"algorithm-item-not-judged", "it takes any algorithm in a list of algorithms", algorithm_in_a_list, false, NULL},
-    {"magic-not-judged", "it takes any magic", magic, false, NULL},
-    {"yes-no-not-judged", "it takes any yes/no byte", yes_no, false, NULL},
+    {"hash-not-judged", "it takes any hash code in a scheme, a signature or the cipher Xor", hash, READS_ON, NULL},
+    {"kdf-not-judged", "it takes any KDF code in the keyed hash scheme's Xor", kdf, READS_ON, NULL},
+    {"mode-not-judged", "it takes any mode of a cipher", mode, READS_ON, NULL},
+    {"curve-not-judged", "it takes any curve", curve, READS_ON, NULL},
+    {"name-algorithm-not-judged", "it takes any name algorithm", name_algorithm, READS_ON, NULL},
+    {"audited-not-judged", "it takes any algorithm in a command audit", audited, READS_ON, NULL},
+    {"bank-not-judged", "it takes any PCR bank", bank, READS_ON, NULL},
+    {"algorithm-item-not-judged", "it takes any algorithm in a list of algorithms", algorithm_in_a_list, READS_ON, NULL},
+    {"hierarchy-not-judged", "it takes any hierarchy of a ticket", hierarchy, READS_ON, NULL},
+    {"ticket-tag-not-judged", "it takes any tag of a ticket", ticket_tag, READS_ON, NULL},
+    {"magic-not-judged", "it takes any magic", magic, READS_ON, NULL},
+    {"yes-no-not-judged", "it takes any yes/no byte", yes_no, READS_ON, NULL},
     {"symcipher-cipher", "cipher selector 0025 has key bits and a mode there, and no arm in the format", symcipher_cipher,
-     false, key_bits_and_mode},
-    {"null-sensitive", "Null is an empty arm of its sensitive union", null_sensitive, false, nothing},
-    {"null-attestation", "attestation type 0010 has an empty arm there", null_attestation, false, nothing},
-    {"null-capability", "capability code 00000010 has an empty arm there", null_capability, false, nothing},
+     READS_ON, key_bits_and_mode},
+    {"null-sensitive", "Null is an empty arm of its sensitive union", null_sensitive, READS_ON, nothing},
+    {"null-attestation", "attestation type 0010 has an empty arm there", null_attestation, READS_ON, nothing},
+    {"null-capability", "capability code 00000010 has an empty arm there", null_capability, READS_ON, nothing},
     {"pcr-properties", "capability code 00000007 has a list of PCR properties there, and no arm in the format",
-     pcr_capability, false, pcr_properties},
-    {"ecc-to-128", "it takes ECC parameters to 128 bytes, the format to 66", long_ecc, false, NULL},
+     pcr_capability, READS_ON, pcr_properties},
+    {"ecc-to-128", "it takes ECC parameters to 128 bytes, the format to 66", long_ecc, READS_ON, NULL},
     {"unique-to-64", "the unique part of SymCipher is a digest there, to 64 bytes; in the format a key, to 32",
-     long_unique, false, NULL},
-    {"name-to-68", "it takes names to 68 bytes, the format to 66", long_name, false, NULL},
-    {"handles-to-254", "it takes lists of handles to 254, the format to 128", many_handles, false, NULL},
+     long_unique, READS_ON, NULL},
+    {"name-to-68", "it takes names to 68 bytes, the format to 66", long_name, READS_ON, NULL},
+    {"handles-to-254", "it takes lists of handles to 254, the format to 128", many_handles, READS_ON, NULL},
     {"command-attributes-to-256", "it takes lists of command attributes to 256, the format to 128",
-     many_command_attributes, false, NULL},
-    {"commands-to-256", "it takes lists of commands to 256, the format to 128", many_commands, false, NULL},
-    {"curves-to-508", "it takes lists of curves to 508, the format to 128", many_curves, false, NULL},
-    {"acts-to-84", "it takes lists of ACT data to 84, the format to 16", many_acts, false, NULL},
-    {"data-to-64", "it takes attestation data to 64 bytes, the format to 66", long_data, true, NULL},
-    {"algorithms-to-127", "it takes lists of algorithms to 127, the format to 128", many_algorithms, true, NULL},
-    {"properties-to-127", "it takes lists of TPM properties to 127, the format to 128", many_properties, true, NULL},
-    {"policies-to-14", "it takes lists of policies to 14, the format to 16", many_policies, true, NULL},
-    {"no-sha3-shake", "it has no plain digest of SHA3 or SHAKE256", new_digest, true, NULL},
-    {"no-kdf2", "its KDF scheme has no KDF2", kdf2, true, NULL},
-    {"no-nv-digest", "it has no attestation type 801C", nv_digest, true, NULL},
+     many_command_attributes, READS_ON, NULL},
+    {"commands-to-256", "it takes lists of commands to 256, the format to 128", many_commands, READS_ON, NULL},
+    {"curves-to-508", "it takes lists of curves to 508, the format to 128", many_curves, READS_ON, NULL},
+    {"acts-to-84", "it takes lists of ACT data to 84, the format to 16", many_acts, READS_ON, NULL},
+    {"data-to-64", "it takes attestation data to 64 bytes, the format to 66", long_data, REFUSES, NULL},
+    {"algorithms-to-127", "it takes lists of algorithms to 127, the format to 128", many_algorithms, REFUSES, NULL},
+    {"properties-to-127", "it takes lists of TPM properties to 127, the format to 128", many_properties, REFUSES, NULL},
+    {"policies-to-14", "it takes lists of policies to 14, the format to 16", many_policies, REFUSES, NULL},
+    {"no-sha3-shake", "it has no plain digest of SHA3 or SHAKE256", new_digest, REFUSES, NULL},
+    {"no-kdf2", "its KDF scheme has no KDF2", kdf2, REFUSES, NULL},
+    {"no-nv-digest", "it has no attestation type 801C", nv_digest, REFUSES, NULL},
+    {"external-nv", "not asked: it has no NV area with attributes of 8 bytes", external_nv, NOT_ASKED, NULL},
+    {"handle-type", "not asked: its NV area has no handle type, and this one is not listed", handle_type, NOT_ASKED, NULL},
 };
 
 const int rule_count = sizeof rules / sizeof *rules;

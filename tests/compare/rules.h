@@ -1,16 +1,19 @@
-// The known differences between the format and libtss2-mu, a rule each.
+// The known differences between the format and libtss2-mu, and what it has nothing for, a rule each.
 #ifndef RULES_H
 #define RULES_H
 
 #include "layouts.h"
 
+// It reads on where the format refuses; it refuses where the format reads; or it has no structure to be asked with.
+enum way { READS_ON, REFUSES, NOT_ASKED };
+
 struct rule {
     const char *name;
     const char *reason;
-    // Whether libtss2-mu goes another way at this field, given its code, number, length, count or, at a union, its
-    // selector.
+    // Whether libtss2-mu goes another way at this field, or is not asked, given its code, number, length, count or, at a
+    // union, its selector.
     bool (*parts_at)(const struct field *field, uint64_t value);
-    bool refuses; // it refuses where the format reads; otherwise it reads on where the format refuses
+    enum way way;
     const struct field *arm; // at a union where it reads on: the fields that it reads there
 };
 

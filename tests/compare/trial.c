@@ -7,7 +7,7 @@
 #include <stdlib.h>
 #include <string.h>
 
-enum { CHANGES = 80, FORMS = 20 };
+enum { CHANGES = 100, FORMS = 20 };
 
 static uint64_t unexplained_without(const struct batch *batch, int left_out)
 {
@@ -36,17 +36,24 @@ static size_t place_behind(const struct answers *answers, const char *word, stru
     return found == NULL ? 0 : (size_t)(found - answers->chars) + strlen(word);
 }
 
-// A digit is changed to another digit, mostly. What was had is changed in its first digit: behind it is the next line.
+// A digit is changed to another digit, mostly. What was had is changed in its first digit: behind it is the next line. An
+// NV area of type 11 is one that libtss2-mu is not asked about.
 static bool sees_each_change(struct batch *batch, uint64_t seed)
 {
     static const struct {
         const char *word;
         size_t reach;
-    } spots[] = {{"", 20}, {"\nkind ", 20}, {"\nagain ", 20}, {" had ", 1}};
+    } spots[] = {{"", 20}, {"\nkind ", 20}, {"\nagain ", 20}, {" had ", 1}, {"\n0 1 code 17\n", 20}};
+    const size_t spot_count = sizeof spots / sizeof *spots;
     struct random random = random_row(seed, UINT64_MAX);
     for (int i = 0; i < CHANGES; i++) {
-        size_t at = place_behind(&batch->answers, spots[i % 4].word, &random), left = batch->answers.size - at;
-        at += random_below(&random, left < spots[i % 4].reach ? left : spots[i % 4].reach);
+        const char *word = spots[i % spot_count].word;
+        size_t at = place_behind(&batch->answers, word, &random), left = batch->answers.size - at;
+        if (at == 0 && *word != '\0') {
+            printf("trial: our answers have no such word as '%s'\n", word);
+            return false;
+        }
+        at += random_below(&random, left < spots[i % spot_count].reach ? left : spots[i % spot_count].reach);
         batch->answers.chars[at] ^= 1;
         uint64_t seen = unexplained_without(batch, NO_RULE);
         batch->answers.chars[at] ^= 1;

@@ -67,7 +67,7 @@ static const struct rule *rule_met(struct walk *walk, const struct field *field,
 static bool is_taken(struct walk *walk, const struct field *field, uint64_t value, bool in_the_format)
 {
     const struct rule *rule = rule_met(walk, field, value);
-    return rule != NULL ? !rule->refuses : in_the_format;
+    return rule != NULL ? rule->way == READS_ON : in_the_format;
 }
 
 static bool walk_number(struct walk *walk, const struct field *field)
@@ -89,14 +89,26 @@ static bool walk_code(struct walk *walk, const struct field *field, unsigned *se
     return pass_number(walk, width, "code");
 }
 
-// A yes/no byte or the magic.
+static bool is_good(const struct field *field, uint64_t value)
+{
+    switch (field->what) {
+    case MAGIC:
+        return value == MAGIC_NUMBER;
+    case TAG:
+        return is_tag((enum ticket)field->of, (unsigned)value);
+    default:
+        return value <= 1;
+    }
+}
+
+// A yes/no byte, the magic or a ticket's tag.
 static bool walk_value(struct walk *walk, const struct field *field, size_t width)
 {
     if (!is_there(walk, width))
         return false;
     uint64_t value = number_here(walk, width);
-    bool is_good = field->what == MAGIC ? value == MAGIC_NUMBER : value <= 1;
-    return is_taken(walk, field, value, is_good) ? pass_number(walk, width, "number") : refuse(walk, BAD_VALUE, value);
+    return is_taken(walk, field, value, is_good(field, value)) ? pass_number(walk, width, "number")
+                                                               : refuse(walk, BAD_VALUE, value);
 }
 
 static bool walk_buffer(struct walk *walk, const struct field *field)
@@ -143,6 +155,8 @@ static bool walk_field(struct walk *walk, const struct field *field, unsigned *s
         return walk_value(walk, field, 1);
     case MAGIC:
         return walk_value(walk, field, 4);
+    case TAG:
+        return walk_value(walk, field, 2);
     case BUFFER:
         return walk_buffer(walk, field);
     case PLAIN:

@@ -13,7 +13,7 @@ struct walk {
     const struct input *input;
     bool by_rules;
     int left_out; // a rule that is not applied, or NO_RULE
-    int first_rule; // the rule at which the walk left the format's way, or NO_RULE
+    int first_rule; // the rule at which the walk left the format's way, or libtss2-mu is not asked; or NO_RULE
     bool read;
     size_t at; // where the walk stands; the bytes consumed once it has ended well
     unsigned number; // of the refusal, with its place and value

@@ -1,5 +1,5 @@
 #!/usr/bin/env python3
-"""Makes the adapted text: the crate's, with our layout in those points in which docs/DIFFERENCES.md says that ours is another (2.1, 2.10).
+"""Makes the adapted text: the crate's, with our layout in those points in which docs/DIFFERENCES.md says that ours is another (2.1, 2.10, 2.11).
 
     adapt.py TEXT OUT
 
@@ -22,7 +22,12 @@ LISTS = {
     'TpmlEccCurve, TpmEccCurve': (64, 128), 'TpmlTaggedPolicy, TpmsTaggedPolicy': (8, 16), 'TpmlActData, TpmsActData': (8, 16),
 }
 
-# The points, each a change of one table: the file, what stands there, and what is put there.
+# The tickets, and the tags that each has here.
+TICKETS = {
+    'TpmtTkCreation': '0x8021, 0x8021', 'TpmtTkVerified': '0x8022, 0x8022', 'TpmtTkHashcheck': '0x8024, 0x8024', 'TpmtTkAuth': '0x8023, 0x8025',
+}
+
+# The points, each a change of one table or structure: the file, what stands there, and what is put there.
 POINTS = {
     **{f'{name}: {ours} items': ('data/mod.rs', f'tpml!({name}, {crates});', f'tpml!({name}, {ours});') for name, (crates, ours) in LISTS.items()},
     'the cipher Xor has no mode': (
@@ -31,6 +36,9 @@ POINTS = {
         'data/tpmu.rs', f'Hash(TpmsSchemeHash): {WITH}|', f'{ECDAA}: TpmAlgId::Ecdaa;\n    Hash(TpmsSchemeHash): {WITHOUT}|'),
     'the signing scheme Ecdaa has a count': (
         'data/tpmu.rs', f'Hash(TpmsSchemeHash): {WITH};', f'{ECDAA}: TpmAlgId::Ecdaa;\n    Hash(TpmsSchemeHash): {WITHOUT};'),
+    **{f'the tag of {name} is judged': (
+        'data/tpmt.rs', f'struct {name} {{\n        pub tag: TpmSt,', f'struct {name} {{\n        pub tag: crate::data::TpmTicketTag<{tags}>,')
+       for name, tags in TICKETS.items()},
 }
 
 # The variants that the last two need. (The mode's variant Xor stays, and no selector chooses it.)

@@ -3,8 +3,8 @@
 # them as the crate tpm2_protocol, and over it each PROGRAM of this folder, by its name without .rs, into OUT. LEVEL is rustc's level of
 # optimisation, 0 to 3. OUT is emptied first.
 #   RUSTC   a rustc that is new enough; else it is found (find-rustc)
-#   ADAPTED if set, TEXT is the adapted text (adapt.py): the rebuilt modules have what it needs, and refuse an attestation type without an arm
-#           where it stands (rebuilt/data/tpms.rs)
+#   ADAPTED if set, TEXT is the adapted text (adapt.py): the rebuilt modules have what it needs, and refuse where it stands an attestation type
+#           without an arm (rebuilt/data/tpms.rs), and a handle type and a hierarchy that our lists do not have (rebuilt/data/enum.rs)
 set -eu
 here=$(cd "$(dirname "$0")" && pwd -P)
 [ $# -ge 3 ] || { echo 'tests/crate/build.sh: TEXT OUT LEVEL PROGRAM...' >&2; exit 2; }

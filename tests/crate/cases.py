@@ -7,7 +7,7 @@ from itertools import product
 from typing import NamedTuple
 
 from held import CRATES, ECDAA, INSIDE, OURS, UNION_OF_KIND, XOR, Held, OtherArm, Unread, arms, capacities, codes_of, has_two_forms
-from inputs import ALGS, CAPACITIES, KINDS, Maker, be
+from inputs import ALGS, CAPACITIES, HANDLES, HIERARCHY_OF, KINDS, PERMANENT, STRUCTURES, TAGS, Maker, be
 
 ENOUGH = 4096
 NO_INDEX = 0xFFFF
@@ -18,8 +18,9 @@ UNIONS = {
     **{kind: (name,) for kind, name in UNION_OF_KIND.items()},
     2: ('key bits', 'mode'), 11: ('parameters', 'unique'), 12: ('sensitive',), 13: ('attestation',), 15: ('capabilities',), 21: ('digest',),
     22: ('keyed hash',), 23: ('key bits', 'mode'), 24: ('key bits', 'mode'), 25: ('asymmetric',), 26: ('asymmetric',), 27: ('kdf',),
+    16: ('area',), **dict.fromkeys((*TAGS, *HIERARCHY_OF), ()),
 }
-BYTE_FIELDS = {1: 1, 10: 2, 11: 3, 12: 3, 13: 4, 14: 1, 15: 1}
+BYTE_FIELDS = {1: 1, 10: 2, 11: 3, 12: 3, 13: 4, **dict.fromkeys(range(14, 21), 1)}
 # How many items a list of the kind can have, in the crate and here.
 MOST_ITEMS = {13: 8, 14: 8, 15: 128}
 
@@ -45,8 +46,9 @@ class Case(NamedTuple):
 
     @property
     def code(self):
-        """What is put in place of the selector. Of kind 15 it has 4 bytes, the upper two where other cases have the place of their second record."""
-        return self.second_at << 16 | self.selector if self.kind == 15 else self.selector
+        """What is put in place of the selector. A capability and a hierarchy have 4 bytes, the upper two where other cases have the place of their
+        second record."""
+        return self.second_at << 16 | self.selector if self.kind == 15 or self.kind in HIERARCHY_OF else self.selector
 
     @property
     def has_index(self):
@@ -75,7 +77,7 @@ def unframed(stream):
 
 
 def own_selector(kind, data):
-    at, size = {13: (4, 2), 14: (0, 0), 15: (0, 4)}.get(kind, (0, 2))
+    at, size = {13: (4, 2), 14: (0, 0), 15: (0, 4), 16: (0, 1), **dict.fromkeys(HIERARCHY_OF, (2, 4))}.get(kind, (0, 2))
     return int.from_bytes(data[at:at + size], 'big')
 
 
@@ -94,7 +96,7 @@ def records(maker, kind, each):
     Xor and Ecdaa stand further in, without these."""
     found = {}
     for _ in range(4000):
-        data = maker.record(kind)
+        data = maker.record(HIERARCHY_OF.get(kind, kind))
         held = found.setdefault(own_selector(kind, data), [])
         if len(held) < each and fits_both(kind, data) and not (kind in (9, 11) and has_two_forms(kind, data)):
             held.append(data)
@@ -111,12 +113,14 @@ def placed(r, kind, selector, room, first, second=b'', index=NO_INDEX):
     ahead = r.randbytes(r.choice((0, 0, r.randrange(1, 9))))
     behind = r.randbytes(r.choice((0, 0, r.randrange(1, 9))))
     between = ahead + first + behind
-    return Case(kind, selector, room, index, len(ahead), len(between) if second else 0, 0, between + second)
+    upper, lower = divmod(selector, 0x10000)
+    return Case(kind, lower, room, index, len(ahead), len(between) if second else upper, 0, between + second)
 
 
 def relabelled(r, maker):
-    """Every arm under every code; of kinds 2 and 11 with the last union of each other arm. (Xor's mode is Null's arm, and the crate's another.)"""
-    for kind in (*range(1, 14), 15):
+    """Every arm under every code; of kinds 2 and 11 with the last union of each other arm. (Xor's mode is Null's arm, and the crate's another.) And
+    every ticket with every tag and with every hierarchy."""
+    for kind in (*range(1, 14), *range(15, 21), *HIERARCHY_OF):
         found = records(maker, kind, 4 if kind in (9, 11) else 3)
         seconds = [held[0] for held in found.values() if not has_two_forms(kind, held[0])] if kind in (2, 11) else [b'']
         for first in (data for held in found.values() for data in held):
@@ -147,8 +151,8 @@ def for_inside(maker, kind, count):
 
 def indexed(r, maker):
     """Every byte field and every item, up to one past the last; under the record's own selector and under others."""
-    for kind in KINDS:
-        found = records(maker, kind, {14: 40, 15: 6}.get(kind, 12))
+    for kind in (*KINDS, *HIERARCHY_OF):
+        found = records(maker, kind, {14: 40, 15: 6, **dict.fromkeys(HIERARCHY_OF, 3)}.get(kind, 12))
         every = [data for held in found.values() for data in held]
         for first in every:
             second = r.choice(every) if kind in (2, 11) else b''
@@ -200,9 +204,25 @@ def with_two_forms(maker, kind, form, count):
     return found
 
 
+def judged_less(r, maker):
+    """Records that we do not read, and that the crate reads, or refuses otherwise: by their handle type, their tag, their hierarchy."""
+    for kind, ours in ((16, maker.record(16)), *((kind, maker.record(kind)) for kind in TAGS)):
+        codes = HANDLES if kind == 16 else (*STRUCTURES, 0, 0x8020)
+        size = 1 if kind == 16 else 2
+        for first in (be(code, size) + ours[size:] for code in codes):
+            for code in (own_selector(kind, ours), r.choice(codes_of(kind))):
+                for room in (ENOUGH, len(first) - 1):
+                    yield placed(r, kind, code, room, first, b'', r.choice((NO_INDEX, 0)))
+    for kind, ticket in HIERARCHY_OF.items():
+        ours = maker.record(ticket)
+        for first in (ours[:2] + be(code, 4) + ours[6:] for code in (*PERMANENT, 0x40000010)):
+            for case_kind, code in ((kind, r.choice(codes_of(kind))), (ticket, own_selector(ticket, ours))):
+                yield placed(r, case_kind, code, ENOUGH, first, b'', r.choice((NO_INDEX, 0)))
+
+
 def made(r):
     maker = Maker(r)
-    for sort in (relabelled, relabelled_inside, indexed, lists, two_forms):
+    for sort in (relabelled, relabelled_inside, indexed, lists, two_forms, judged_less):
         yield from sort(r, maker)
 
 
@@ -227,11 +247,12 @@ def arms_of(name):
 
 
 def wanted_arms():
-    """The kind, the union by its turn, its arm, the code; of kinds 2 and 11 both arms, which come from two records."""
+    """The kind, the union by its turn, its arm, the code; of kinds 2 and 11 both arms, which come from two records; of a ticket, which has no union,
+    none."""
     for kind, names in UNIONS.items():
         for turn, name in enumerate(names):
             yield from product([kind], [turn], arms_of(name), codes_of(kind))
-        if kind in (2, 11):
+        if kind in (2, 11) or not names:
             yield from product([kind], ['both'], product(*map(arms_of, names)), codes_of(kind))
 
 

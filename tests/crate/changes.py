@@ -11,9 +11,10 @@ from adapt import LISTS
 
 UNION = re.compile(r'^tpmu_view!\(.*?^\}\);', re.M | re.S)
 MARSHAL = re.compile(r'^impl TpmMarshal for (\w+) \{.*?^\}', re.M | re.S)
-NOT_OURS = ('TpmuNvPublic2',)
-# A code of each type of selector that has no arm in the unions that are ours.
-WITHOUT_ARM = {'TpmSt': 'TpmSt::FuManifest', 'TpmAlgId': 'TpmAlgId::Cmac', 'TpmCap': 'TpmCap::PcrProperties'}
+# A code of each type of selector that has no arm.
+WITHOUT_ARM = {'TpmSt': 'TpmSt::FuManifest', 'TpmAlgId': 'TpmAlgId::Cmac', 'TpmCap': 'TpmCap::PcrProperties', 'TpmHt': 'TpmHt::Permanent'}
+TAG, HIERARCHY, DIGEST = 'pub tag: TpmSt,', 'pub hierarchy: TpmRh,', 'pub digest: Tpm2bDigest,'
+LINE = '\n        '
 
 # What is read. Each is made wherever the old text stands, one at a time.
 READING = {
@@ -39,6 +40,7 @@ READING = {
         ('available: buf.len(),', 'available: digest_size,'), ('available: buf.len(),', 'available: 0,'),
         ('value: u64::from(tag.value())', 'value: u64::from(tag.value()) + 1'),
         ('Self::PpCommands(cmds) | Self::AuditCommands(cmds) => cmds.len()', 'Self::PpCommands(cmds) | Self::AuditCommands(cmds) => cmds.len() + 1'),
+        *((f'Self::{arm}(s) => s.len(),', f'Self::{arm}(s) => s.len() + 1,') for arm in ('NvIndex', 'ExternalNv', 'PermanentNv')),
     ],
     'data/tpmt.rs': [
         ('        if algorithm == TpmAlgId::Null {\n            return Ok((\n', '        if algorithm == TpmAlgId::Xor {\n            return Ok((\n'),
@@ -51,6 +53,9 @@ READING = {
         ('e.rebase(offset)', 'e.rebase(offset + 1)'),
         ('            + self.unique.len()', ''), ('+ self.key_bits.len() + self.mode.len()', '+ self.key_bits.len()'),
         ('            + self.sensitive.len()', ''),
+        # Of each ticket another type of each field, and two fields in another order.
+        (TAG, 'pub tag: TpmAlgId,'), (HIERARCHY, 'pub hierarchy: crate::data::TpmCap,'), (DIGEST, 'pub digest: crate::data::Tpm2bName,'),
+        (f'{TAG}{LINE}{HIERARCHY}', f'{HIERARCHY}{LINE}{TAG}'), (f'{HIERARCHY}{LINE}{DIGEST}', f'{DIGEST}{LINE}{HIERARCHY}'),
     ],
     'basic/list.rs': [
         ('        if count > CAPACITY {', '        if count >= CAPACITY {'), ('        if count > CAPACITY {', '        if count > CAPACITY + 1 {'),
@@ -87,6 +92,7 @@ WRITING = {
         ('digest_size(tag).is_some_and(|size| digest.deref().len() == size)', '!digest.deref().is_empty()'),
         ('Self::Digest(d) => writer.write_bytes(d)', 'Self::Digest(d) => writer.write_bytes(&d[1..])'),
         ('PpCommands(TpmlCc): TpmCap::PpCommands', 'PpCommands(TpmlCc): TpmCap::PpCommands|TpmCap::AuditCommands'),
+        ('NvIndex(TpmsNvPublic): TpmHt::NvIndex;', 'NvIndex(TpmsNvPublic): TpmHt::NvIndex|TpmHt::PermanentNv;'),
         ('Self::Digest(d) => d.deref().len()', 'Self::Digest(d) => d.deref().len() + 2'),
     ],
     'data/tpmt.rs': [
@@ -166,8 +172,6 @@ def selectors(path, text):
     """Each selector of each union's table replaced by a code that has no arm there."""
     for table in UNION.finditer(text):
         union = table.group().split(',')[1].strip()
-        if union in NOT_OURS:
-            continue
         for hit in re.finditer(r'(?<=[:|] )Tpm\w+::\w+|(?<=\|)Tpm\w+::\w+', table.group()):
             at = table.start() + hit.start()
             other = WITHOUT_ARM[hit.group().split('::')[0]]
@@ -177,8 +181,6 @@ def selectors(path, text):
 def arms(path, text):
     """Each arm of each union is not written."""
     for block in MARSHAL.finditer(text):
-        if block[1] in NOT_OURS:
-            continue
         for hit in re.finditer(r'\b(\w+)\.marshal\(writer\)', block.group()):
             at, end = block.start() + hit.start(), block.start() + hit.end()
             nothing = f'{{ let _ = {hit[1]}; Ok(()) }}'

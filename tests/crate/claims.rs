@@ -1,5 +1,5 @@
 //! What docs/DIFFERENCES.md says of the crate, tried on its text. Each claim is printed with its section, and `holds` or `FAILS`. A claim marked
-//! (rebuilt) leans on more of a rebuilt module than the numbers of the codes and that these have 2 bytes.
+//! (rebuilt) leans on more of a rebuilt module than the codes that there are, their numbers and their widths.
 //!
 //! Not tried, since there is nothing to try it on: what needs a 16-bit machine (2.1), and what that document calls cut.
 
@@ -429,9 +429,102 @@ fn capabilities(t: &mut Tally) {
     t.text("2.8 a capability's list: 4 + its capacity times an item's SIZE", found, sizes);
 }
 
+const AREA: &str = "01800001 000b 00000004 0000 0008";
+const EXPANDED: &str = "01800001 000b 0000000100000004 0000 0008";
+
+/// The three arms of an NV area: the handle type, and what is read behind it.
+const AREAS: [(TpmHt, &str); 3] = [(TpmHt::NvIndex, AREA), (TpmHt::ExternalNv, EXPANDED), (TpmHt::PermanentNv, AREA)];
+
+fn area(arm: TpmHt) -> TpmuNvPublic2 {
+    let text = AREAS.iter().find(|(own, _)| *own == arm).map_or("", |(_, text)| text);
+    TpmuNvPublic2::unmarshal_tagged(arm, &bytes(text)).expect("an NV area").0
+}
+
+fn handle_types() -> Vec<TpmHt> {
+    (0..=u8::MAX).filter_map(|code| TpmHt::try_from(code).ok()).collect()
+}
+
+fn by_type(handle_type: TpmHt, text: &str) -> [Read; 2] {
+    let input = bytes(text);
+    let taken = |tail: &[u8]| (input.len() - tail.len(), hex(tail));
+    let read = TpmuNvPublic2::unmarshal_tagged(handle_type, &input).map(|(_, tail)| taken(tail));
+    [read, TpmuNvPublic2::cast_tagged(handle_type, &input).map(|(_, tail)| taken(tail))]
+}
+
+fn nv_areas(t: &mut Tally) {
+    let own = AREAS.map(|(arm, text)| by_type(arm, &format!("{text} ff")));
+    let taken = [14, 18, 14].map(|size| [consumed(size, "ff"), consumed(size, "ff")]);
+    t.rebuilt("1, 2.2 NV areas: attributes of 4 bytes, of 8 under ExternalNv; the union hands the tail back", own, taken);
+    let both = [read::<TpmtNvPublic2>(&format!("11 {EXPANDED} ff")), view::<TpmtNvPublic2>(&format!("11 {EXPANDED} ff"))];
+    t.rebuilt("2.2 kind 16: unmarshal and the view hand the tail back", both, [consumed(19, "ff"), consumed(19, "ff")]);
+    let matching: Vec<_> = AREAS
+        .iter()
+        .flat_map(|(arm, _)| handle_types().into_iter().filter(|code| area(*arm).matches_tag(*code)).map(|code| (arm.value(), code.value())))
+        .collect();
+    let each = AREAS.map(|(arm, _)| (arm.value(), arm.value())).to_vec();
+    t.text("2.5 NV areas: each arm under its own type alone, PermanentNv not under 01", matching, each);
+    let armless = |code: &TpmHt| by_type(*code, "") == [no_arm(0, code.value().into()), no_arm(0, code.value().into())];
+    let others: Vec<_> = handle_types().into_iter().filter(armless).map(TpmHt::value).collect();
+    t.text("2.5 NV areas: the union alone has no arm under each type but the three", others, vec![0x00, 0x02, 0x03, 0x40, 0x80, 0x81, 0x90]);
+    t.text("2.5 kind 16, 40 as a view: VariantNotAvailable, value 64", view::<TpmtNvPublic2>("40"), no_arm(0, 64));
+    let two = [read::<TpmtNvPublic2>("40"), read::<TpmtNvPublic2>("02")];
+    t.rebuilt("2.4, 2.5 kind 16, 40 and 02 by unmarshal: offset 1", two, [no_arm(1, 64), no_arm(1, 2)]);
+    t.rebuilt("2.4 kind 16, 01 and an index: the arm's error is moved by 1", read::<TpmtNvPublic2>("01 01800001"), end(1, 2, 0));
+    let wrong = |handle_type, arm| written(&TpmtNvPublic2 { handle_type, public_area: area(arm) }, 99);
+    let found = [wrong(TpmHt::ExternalNv, TpmHt::NvIndex), wrong(TpmHt::NvIndex, TpmHt::PermanentNv), wrong(TpmHt::Permanent, TpmHt::NvIndex)];
+    let refused = [not_its_arm(0, 17, ""), not_its_arm(0, 1, ""), not_its_arm(0, 64, "")];
+    t.text("2.6 kind 16, ExternalNv with NvIndex: offset 0, value 17; NvIndex with PermanentNv: value 1; 40: value 64", found, refused);
+    t.text("2.8 kind 16: TpmHt::SIZE + TPM_MAX_COMMAND_SIZE", TpmtNvPublic2::SIZE, TpmHt::SIZE + TPM_MAX_COMMAND_SIZE);
+}
+
+/// The four tickets, read.
+fn tickets_read(text: &str) -> [Read; 4] {
+    [read::<TpmtTkCreation>(text), read::<TpmtTkVerified>(text), read::<TpmtTkHashcheck>(text), read::<TpmtTkAuth>(text)]
+}
+
+fn tickets_viewed(text: &str) -> [Read; 4] {
+    [view::<TpmtTkCreation>(text), view::<TpmtTkVerified>(text), view::<TpmtTkHashcheck>(text), view::<TpmtTkAuth>(text)]
+}
+
+/// The four tickets with that tag and hierarchy and no digest, written.
+fn tickets_written(tag: TpmSt, hierarchy: TpmRh) -> [(TpmResult<()>, String); 4] {
+    let digest = Tpm2bDigest::default();
+    [
+        written(&TpmtTkCreation { tag, hierarchy, digest }, 99),
+        written(&TpmtTkVerified { tag, hierarchy, digest }, 99),
+        written(&TpmtTkHashcheck { tag, hierarchy, digest }, 99),
+        written(&TpmtTkAuth { tag, hierarchy, digest }, 99),
+    ]
+}
+
+/// What a ticket of the crate takes: the text says of which type each field is, and the macro that reads them is rebuilt.
+fn tickets(t: &mut Tally) {
+    let tags = all_codes::<TpmSt>();
+    let ticket = |tag: &TpmSt| format!("{:04x} 40000007 0000 ff", tag.value());
+    let both: Vec<_> = tags.iter().map(|tag| [tickets_read(&ticket(tag)), tickets_viewed(&ticket(tag))]).collect();
+    let eight: [Read; 4] = std::array::from_fn(|_| consumed(8, "ff"));
+    let all = vec![[eight.clone(), eight.clone()]; 18];
+    t.rebuilt("2.2, 2.11 kinds 17 to 20: read with each structure tag, also as a view; the tail is handed back", both, all);
+    let again: Vec<_> = tags.iter().map(|tag| tickets_written(*tag, TpmRh::Null)).collect();
+    let bytes_of = |tag: &TpmSt| (Ok(()), format!("{:04x}400000070000", tag.value()));
+    t.rebuilt("2.11 kinds 17 to 20: written with each structure tag", again, tags.iter().map(|tag| std::array::from_fn(|_| bytes_of(tag))).collect());
+    let none: [Read; 4] = std::array::from_fn(|_| fault(Fault::Code, 0, 0x8020));
+    t.rebuilt("2.11 kinds 17 to 20, 8020: refused as a code", tickets_read("8020 40000007 0000"), none);
+    t.rebuilt("2.11 kinds 17 to 20, 8021 4000000A 0000: read, if TpmRh has it", tickets_read("8021 4000000a 0000 ff"), eight);
+    let lockout: [_; 4] = std::array::from_fn(|_| (Ok(()), "80214000000a0000".to_string()));
+    t.rebuilt("2.11 kinds 17 to 20, 8021 and 4000000A: written", tickets_written(TpmSt::Creation, TpmRh::Lockout), lockout);
+    let cut: [Read; 4] = std::array::from_fn(|_| end(0, 4, 3));
+    t.rebuilt("2.4 kinds 17 to 20: no offset is moved", tickets_read("8021 400000"), cut);
+    let sizes = [TpmtTkCreation::SIZE, TpmtTkVerified::SIZE, TpmtTkHashcheck::SIZE, TpmtTkAuth::SIZE];
+    t.rebuilt("2.8 kinds 17 to 20: the sizes of the three fields", sizes, [TpmSt::SIZE + TpmRh::SIZE + Tpm2bDigest::SIZE; 4]);
+}
+
 fn main() {
     let mut t = Tally::default();
-    for part in [lists, tails, available, places, settled, arms, wrong_arms, room, owned, sizes, two_forms, capability_lists, capabilities] {
+    let parts: [fn(&mut Tally); 15] = [
+        lists, tails, available, places, settled, arms, wrong_arms, room, owned, sizes, two_forms, capability_lists, capabilities, nv_areas, tickets,
+    ];
+    for part in parts {
         part(&mut t);
     }
     println!("{} claims hold by the text, {} more with a rebuilt module, {} fail", t.text, t.rebuilt, t.failed);

@@ -82,8 +82,9 @@ macro_rules! arms { ($by:ident: $($ty:ty { $($(#[$only:meta])? $arm:ident),* $(;
     }
 })* } }
 
-number!(TpmUint8: 1, TpmUint16: 2, TpmUint32: 4, TpmUint64: 8, TpmaObject: 4, TpmaAlgorithm: 4, TpmaCc: 4, TpmCc: 4, TpmaAct: 4);
-code!(TpmAlgId: 2, TpmEccCurve: 2, TpmSt: 2, TpmCap: 4);
+number!(TpmUint8: 1, TpmUint16: 2, TpmUint32: 4, TpmUint64: 8, TpmaObject: 4, TpmaAlgorithm: 4, TpmaCc: 4, TpmCc: 4, TpmaAct: 4,
+    TpmaNv: 4, TpmaNvExp: 8);
+code!(TpmAlgId: 2, TpmEccCurve: 2, TpmSt: 2, TpmCap: 4, TpmHt: 1, TpmRh: 4);
 
 impl Fields for TpmiYesNo {
     fn list(&self, out: &mut Lines) {
@@ -152,6 +153,7 @@ arms! { TEXT:
     TpmuSignature { Rsassa, Rsapss, Ecdsa, Ecdaa, Sm2, Ecschnorr, Hmac; Null }
     TpmuAttest { Certify, Creation, Quote, CommandAudit, SessionAudit, Time, Nv, NvDigest }
     TpmuCapabilities { Algs, Handles, Commands, PpCommands, AuditCommands, Pcrs, TpmProperties, EccCurves, AuthPolicies, Act }
+    TpmuNvPublic2 { NvIndex, ExternalNv, PermanentNv }
 }
 
 fields! { TEXT:
@@ -167,7 +169,21 @@ fields! { TEXT:
     TpmtSignature { sig_alg, signature }
     TpmtPublic { object_type, name_alg, object_attributes, auth_policy, parameters, unique }
     TpmtSensitive { sensitive_type, auth_value, seed_value, sensitive }
+    TpmtNvPublic2 { handle_type, public_area }
 }
+
+/// The text has the fields and their order; a tag is a fixed value in our listing, and no code.
+macro_rules! ticket { ($($ty:ty),*) => { $(impl Fields for $ty {
+    fn list(&self, out: &mut Lines) {
+        out.under(TEXT, |out| {
+            out.number(2, u64::from(self.tag.value()));
+            self.hierarchy.list(out);
+            self.digest.list(out);
+        });
+    }
+})* } }
+
+ticket!(TpmtTkCreation, TpmtTkVerified, TpmtTkHashcheck, TpmtTkAuth);
 
 fields! { REBUILT:
     TpmsSchemeHash { hash_alg }
@@ -195,6 +211,8 @@ fields! { REBUILT:
     TpmsTaggedPolicy { handle, policy_hash }
     TpmsActData { handle, timeout, attributes }
     TpmsCapabilityData { capability, data }
+    TpmsNvPublic { nv_index, name_alg, attributes, auth_policy, data_size }
+    TpmsNvPublicExpAttr { nv_index, name_alg, attributes, auth_policy, data_size }
 }
 
 #[cfg(adapted)]

@@ -1,6 +1,6 @@
-//! The cipher Xor and the scheme Ecdaa in the crate's form and in ours (docs/DIFFERENCES.md, 2.10). An input of a kind in which they can stand, that
-//! is 2, 5 to 9 and 11, is walked along docs/FORMAT.md's layout with these two arms in the one form or in the other: so its bytes alone say what each
-//! side has to answer.
+//! The cipher Xor and the scheme Ecdaa in the crate's form and in ours (docs/DIFFERENCES.md, 2.10), and tickets, of which the crate judges less
+//! (2.11). An input of a kind in which they can stand, that is 2, 5 to 9, 11 and 17 to 20, is walked along docs/FORMAT.md's layout with these in the
+//! one form or in the other: so its bytes alone say what each side has to answer.
 
 use crate::answers::Ours;
 use crate::words::{hex, number_of};
@@ -8,15 +8,18 @@ use std::fmt::Write;
 
 #[derive(Clone, Copy, PartialEq)]
 pub enum Form {
-    /// Xor has a mode, Ecdaa no count.
+    /// Xor has a mode, Ecdaa no count; a ticket has any structure tag, and any permanent handle for a hierarchy.
     Crates,
-    /// Xor has no mode, Ecdaa a count.
+    /// Xor has no mode, Ecdaa a count; a ticket has its own tag, and one of four hierarchies.
     Ours,
 }
 
-/// One of the two arms, by the name that the differences have in the tables.
+/// What has two forms, by the name that the differences have in the tables.
 pub const XOR_ARM: &str = "2.10, the cipher Xor: no mode here";
 pub const ECDAA_ARM: &str = "2.10, the scheme Ecdaa: a count here";
+pub const TAG: &str = "2.11, a structure tag that is not the ticket's";
+pub const NO_TAG: &str = "2.11, a tag that is no structure tag";
+pub const HIERARCHY: &str = "2.11, a hierarchy outside the four";
 
 const RSA: u64 = 0x01;
 const HMAC: u64 = 0x05;
@@ -36,6 +39,29 @@ fn is_curve(code: u64) -> bool {
     matches!(code, 0x00..=0x05 | 0x10 | 0x11 | 0x20 | 0x30..=0x32 | 0x40 | 0x41)
 }
 
+/// The structure tags that the rebuilt `TpmSt` has.
+pub fn is_structure_tag(code: u64) -> bool {
+    matches!(code, 0xc4 | 0x8000..=0x8002 | 0x8014..=0x801a | 0x801c | 0x8021..=0x8025 | 0x8029)
+}
+
+fn is_tag_of(kind: u32, tag: u64) -> bool {
+    match kind {
+        17 => tag == 0x8021,
+        18 => tag == 0x8022,
+        19 => tag == 0x8024,
+        _ => matches!(tag, 0x8023 | 0x8025),
+    }
+}
+
+/// The permanent handles that the rebuilt `TpmRh` has.
+fn is_permanent(code: u64) -> bool {
+    matches!(code, 0x4000_0000..=0x4000_000d)
+}
+
+fn is_hierarchy(code: u64) -> bool {
+    matches!(code, 0x4000_0001 | 0x4000_0007 | 0x4000_000b | 0x4000_000c)
+}
+
 /// What the fields of a record add up to; or the refusal of the first that has a fault.
 type Step = Result<(), Ours>;
 
@@ -45,7 +71,7 @@ struct Walk<'a> {
     at: usize,
     /// As our listing has them.
     fields: String,
-    /// The first of the two arms whose hash was read.
+    /// The first of the two arms whose hash was read; of a ticket the first field that is not as ours has to be.
     met: Option<&'static str>,
 }
 
@@ -197,8 +223,39 @@ impl<'a> Walk<'a> {
         }
     }
 
+    /// A tag is a fixed value here, and a code in the crate.
+    fn tag(&mut self, kind: u32) -> Step {
+        let place = self.at;
+        let tag = self.value(2, "number")?;
+        if is_tag_of(kind, tag) {
+            return Ok(());
+        }
+        self.met.get_or_insert(if is_structure_tag(tag) { TAG } else { NO_TAG });
+        match self.form {
+            Form::Ours => Err(Self::refusal("Value", place, tag)),
+            Form::Crates if is_structure_tag(tag) => Ok(()),
+            Form::Crates => Err(Self::refusal("Code", place, tag)),
+        }
+    }
+
+    fn hierarchy(&mut self) -> Step {
+        let place = self.at;
+        let code = self.value(4, "code")?;
+        if is_hierarchy(code) {
+            return Ok(());
+        }
+        self.met.get_or_insert(HIERARCHY);
+        let is_taken = self.form == Form::Crates && is_permanent(code);
+        if is_taken { Ok(()) } else { Err(Self::refusal("Code", place, code)) }
+    }
+
     fn record(&mut self, kind: u32) -> Step {
         match kind {
+            17..=20 => {
+                self.tag(kind)?;
+                self.hierarchy()?;
+                self.buffer(64)
+            }
             2 => self.cipher(),
             5 => self.signing_scheme(),
             6..=8 => self.asymmetric_scheme(),
@@ -218,9 +275,9 @@ impl<'a> Walk<'a> {
     }
 }
 
-/// Of an input that comes to one of the two arms: which, and what a reader answers that has both in this form. None of any other input.
+/// Of an input that comes to what has two forms: its name, and what a reader answers that has all of it in this form. None of any other input.
 pub fn answer(form: Form, kind: u32, input: &[u8]) -> Option<(&'static str, Ours)> {
-    if !matches!(kind, 2 | 5..=9 | 11) {
+    if !matches!(kind, 2 | 5..=9 | 11 | 17..=20) {
         return None;
     }
     let mut walk = Walk { form, input, at: 0, fields: String::new(), met: None };
@@ -228,5 +285,5 @@ pub fn answer(form: Form, kind: u32, input: &[u8]) -> Option<(&'static str, Ours
     let (consumed, fields) = (walk.at, walk.fields);
     let again = hex(&input[..consumed]);
     let answer = read.map_or_else(|refused| refused, |()| Ours::Read { consumed, tail: input.len() - consumed, fields, again });
-    walk.met.map(|arm| (arm, answer))
+    walk.met.map(|name| (name, answer))
 }

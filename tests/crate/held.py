@@ -1,14 +1,16 @@
 """A record as a writer sees it, and what each side must answer when it is written.
 
 The layouts and arms are those of docs/FORMAT.md (sections 6 and 7), the answers those of its section 9 for our side and of
-docs/DIFFERENCES.md (2.5, 2.6) for the crate's. Which class a case belongs to is decided here, from the case alone: what is held, the
-selector, the room. Two arms have another form in the crate (2.10); a record can be taken apart with them in either form.
+docs/DIFFERENCES.md (2.5, 2.6, 2.11) for the crate's. Which class a case belongs to is decided here, from the case alone: what is held, the
+selector, the room. Two arms have another form in the crate (2.10), and some codes are judged there by longer lists; a record can be taken apart
+in either form.
 """
 
 from functools import cache
 from typing import NamedTuple
 
-from inputs import ALGS, ATTEST, CAPACITIES, CAPS, CURVES, DIGESTS, be
+from inputs import (
+    ALGS, AREAS, ATTEST, CAPACITIES, CAPS, CURVES, DIGESTS, HANDLES, HIERARCHIES, HIERARCHY_OF, PERMANENT, STRUCTURES, TAGS, be)
 
 XOR, NULL, ECDAA = 0x0A, 0x10, 0x1A
 HASHED = (0x14, 0x16, 0x18, ECDAA, 0x1B, 0x1C)
@@ -16,15 +18,18 @@ CIPHERS = {0x06: 'Aes', 0x13: 'Sm4', 0x26: 'Camellia', XOR: 'Xor', NULL: 'Null'}
 OBJECTS = {0x08: 'KeyedHash', 0x25: 'SymCipher', 0x01: 'Rsa', 0x23: 'Ecc', NULL: 'Null'}
 CAPABILITIES = {0: 'Algs', 1: 'Handles', 2: 'Commands', 3: 'PpCommands', 4: 'AuditCommands', 5: 'Pcrs', 6: 'TpmProperties', 8: 'EccCurves',
                 9: 'AuthPolicies', 10: 'Act'}
+NV_AREAS = {0x01: 'NvIndex', 0x11: 'ExternalNv', 0x12: 'PermanentNv'}
 
 
 class Form(NamedTuple):
-    """How the two arms are laid out: whether the cipher Xor has a mode, and whether the scheme Ecdaa has a count."""
+    """How the two arms are laid out: whether the cipher Xor has a mode, and whether the scheme Ecdaa has a count. And whether a ticket's tag, a
+    hierarchy and the handle type of an NV area are judged by our lists, or by the crate's."""
     has_mode: bool
     has_count: bool
+    has_our_lists: bool = True
 
 
-CRATES, OURS = Form(True, False), Form(False, True)
+CRATES, OURS = Form(True, False, False), Form(False, True)
 
 
 @cache
@@ -44,6 +49,7 @@ def arms(form):
         'sensitive': {0x01: 'Rsa', 0x23: 'Ecc', 0x08: 'Bits', 0x25: 'Sym'},
         'signature': {0x14: 'Rsassa', 0x16: 'Rsapss', 0x18: 'Ecdsa', ECDAA: 'Ecdaa', 0x1B: 'Sm2', 0x1C: 'Ecschnorr', 0x05: 'Hmac', NULL: 'Null'},
         'capabilities': CAPABILITIES,
+        'area': NV_AREAS,
         'attestation': {0x8014: 'Nv', 0x8015: 'CommandAudit', 0x8016: 'SessionAudit', 0x8017: 'Certify', 0x8018: 'Quote', 0x8019: 'Time',
                         0x801A: 'Creation', 0x801C: 'NvDigest'},
     }
@@ -62,13 +68,14 @@ LIMITS = {
     ('sensitive', 'Rsa'): (256,), ('sensitive', 'Ecc'): (66,), ('sensitive', 'Bits'): (256,), ('sensitive', 'Sym'): (32,),
 }
 
-# The structure tags that the crate's TpmSt has here (rebuilt/data/enum.rs).
-TAGS = [0xC4, 0x8000, 0x8001, 0x8002, *ATTEST, 0x8021, 0x8022, 0x8023, 0x8024, 0x8025, 0x8029]
+# What a selector of that kind can be in the crate, and what it may be here; where a kind has no line, an algorithm.
+CODES = {13: STRUCTURES, 15: CAPS, 16: HANDLES, **dict.fromkeys(TAGS, STRUCTURES), **dict.fromkeys(HIERARCHY_OF, PERMANENT)}
+OUR_CODES = {**CODES, 13: ATTEST, 16: AREAS, **TAGS, **dict.fromkeys(HIERARCHY_OF, HIERARCHIES)}
+BAD_CODE, BAD_VALUE = 2, 6
 
 
 def codes_of(kind):
-    """What a selector of that kind can be in the crate."""
-    return {13: TAGS, 15: CAPS}.get(kind, ALGS)
+    return CODES.get(kind, ALGS)
 
 
 class Selector(NamedTuple):
@@ -112,11 +119,11 @@ class OtherArm(ValueError):
 
 
 class Reader:
-    """Takes a record apart, with the two arms in that form, and keeps its byte fields. What a record of kind 2, 5 to 9, 11, 14 or 15 is refused
-    for is raised, but for a list's count, which is not judged; of the other kinds a record is taken to be legal."""
+    """Takes a record apart in that form, and keeps its byte fields. What a record of kind 2, 5 to 9, 11, or 14 on is refused for is raised, but for
+    a list's count, which is not judged; of the other kinds a record is taken to be legal."""
 
     def __init__(self, data, form=OURS, which='first'):
-        self.data, self.arms, self.which = data, arms(form), which
+        self.data, self.arms, self.which, self.has_our_lists = data, arms(form), which, form.has_our_lists
         self.at, self.byte_fields = 0, []
 
     def refuse(self, name, value, had=0):
@@ -136,11 +143,18 @@ class Reader:
     def number(self):
         return int.from_bytes(self.take(2), 'big')
 
-    def code(self, listed=ALGS):
-        value = self.number()
+    def code(self, listed=ALGS, size=2):
+        value = int.from_bytes(self.take(size), 'big')
         if value not in listed:
             self.refuse('Code', value)
-        return be(value, 2)
+        return be(value, size)
+
+    def tag(self, kind):
+        """Of a ticket: here a fixed value, and a code in the crate."""
+        tag = self.number()
+        if tag not in (TAGS[kind] if self.has_our_lists else STRUCTURES):
+            self.refuse('Value' if self.has_our_lists else 'Code', tag)
+        return tag
 
     def selector(self):
         return int.from_bytes(self.code(), 'big')
@@ -214,6 +228,8 @@ class Reader:
             return self.attested(arm)
         if name == 'capabilities':
             return self.items(arm)
+        if name == 'area':
+            return [*self.numbers(4), self.code(), *self.numbers(8 if arm == 'ExternalNv' else 4), *self.buffers(64), *self.numbers(2)]
         return self.buffers(*LIMITS[name, arm])
 
     def parameters(self, arm):
@@ -257,6 +273,12 @@ class Reader:
         if kind == 15:
             selector = int.from_bytes(self.take(4), 'big')
             return Structure(selector, [Selector(4), self.union('capabilities', selector)], 'Arm')
+        if kind == 16:
+            selector = self.code(AREAS if self.has_our_lists else HANDLES, 1)[0]
+            return Structure(selector, [Selector(1), self.union('area', selector)])
+        if kind in TAGS:
+            tag = self.tag(kind)
+            return Structure(tag, [Selector(2), self.code(HIERARCHIES if self.has_our_lists else PERMANENT, 4), *self.buffers(64)])
         magic = self.numbers(4) if kind == 13 else []
         selector = self.number() if kind == 13 else self.selector()
         if kind == 11:
@@ -304,12 +326,12 @@ class Room:
             self.put(part)
 
 
-def judged(it, place, listed=ALGS):
-    """Where the structure ends in our output; or the first refusal in wire order."""
+def judged(it, place, listed=ALGS, number=BAD_CODE):
+    """Where the structure ends in our output; or the first refusal in wire order. NUMBER is that of a selector that is not listed."""
     for part in it.parts:
         if isinstance(part, Selector):
             if it.selector not in listed:
-                raise Refused(2, place, it.selector)
+                raise Refused(number, place, it.selector)
             place += part.size
         elif isinstance(part, Union):
             if it.selector not in part.arms:
@@ -343,14 +365,20 @@ def size_of(parts, stop=None):
     return size, False
 
 
+# What a case is about whose selector the crate's list has and ours does not.
+OUTSIDE = {13: 'type', 16: 'handle type', **dict.fromkeys(TAGS, 'tag'), **dict.fromkeys(HIERARCHY_OF, 'hierarchy')}
+
+
 class Held:
     """The record that a case makes: read, its selector replaced, for kinds 2 and 11 with the other record's last union."""
 
     def __init__(self, kind, code, first, second=b'', form=OURS):
         self.kind = kind
-        self.outer, arm, turn = INSIDE.get(kind, (kind, None, None))
+        self.outer, arm, turn = INSIDE.get(kind, (HIERARCHY_OF.get(kind, kind), None, None))
         reader = Reader(first, form)
         self.record = reader.record(self.outer)
+        if kind in HIERARCHY_OF:
+            self.select_hierarchy()
         self.tail, self.byte_fields = first[reader.at:], reader.byte_fields
         self.target = self.record
         if arm:
@@ -364,6 +392,11 @@ class Held:
         if kind != 14:
             self.target.selector = code
         self.begins = size_of(self.record.parts, self.target)[0] if arm else 0
+
+    def select_hierarchy(self):
+        """It is replaced in place of the tag."""
+        _, hierarchy, *digest = self.record.parts
+        self.record = Structure(int.from_bytes(hierarchy, 'big'), [be(self.record.selector, 2), Selector(4), *digest])
 
     def take_last_union(self, other):
         """From another record, which nothing may follow. Ahead of its unique part a record of kind 11 has one byte field, the policy."""
@@ -385,8 +418,8 @@ class Held:
 
     def sort(self, room):
         """What the case is about: how the two sides' answers are related follows from it."""
-        if self.kind == 13 and self.target.selector not in ATTEST:
-            return 'type'
+        if self.kind in OUTSIDE and self.target.selector not in OUR_CODES[self.kind]:
+            return OUTSIDE[self.kind]
         if not self.target.fits():
             if self.target.is_cipher() and self.target.selector == NULL:
                 return 'null cipher'
@@ -396,7 +429,7 @@ class Held:
     def ours(self, room):
         """Our answer: `again`, or number, place and value."""
         try:
-            size = judged(self.record, 0, ATTEST if self.kind == 13 else codes_of(self.kind))
+            size = judged(self.record, 0, OUR_CODES.get(self.kind, ALGS), BAD_VALUE if self.kind in TAGS else BAD_CODE)
         except Refused as refusal:
             return refusal.args
         return ('again',) if size <= room else (9, 0, size)
@@ -412,7 +445,7 @@ class Held:
 
 
 def outcome(kind, data, form):
-    """What comes of reading these bytes with the two arms in that form: how many bytes the record has, or what it is refused for."""
+    """What comes of reading these bytes in that form: how many bytes the record has, or what it is refused for."""
     reader = Reader(data, form)
     try:
         reader.record(kind)
@@ -424,6 +457,11 @@ def outcome(kind, data, form):
 def has_two_forms(kind, data):
     """Whether a record with the cipher Xor or the scheme Ecdaa has another outcome in the crate's form than in ours."""
     return kind in (2, *range(5, 10), 11) and outcome(kind, data, CRATES) != outcome(kind, data, OURS)
+
+
+def is_judged_less(kind, data):
+    """Whether the bytes have another outcome by the crate's lists than by ours: of an NV area and of a ticket."""
+    return kind in (16, *TAGS) and outcome(kind, data, CRATES) != outcome(kind, data, OURS)
 
 
 def capacities(kind, data):

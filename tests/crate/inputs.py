@@ -16,7 +16,7 @@ ROOT = Path(__file__).resolve().parents[2]
 VECTORS = ROOT / 'tests/vectors'
 # What `deposits` takes.
 GREATEST = 4096
-KINDS = range(1, 16)
+KINDS = range(1, 21)
 
 ALGS = [1, *range(3, 9), *range(0xA, 0xE), 0x10, *range(0x12, 0x1E), *range(0x20, 0x24), *range(0x25, 0x2F), *range(0x3F, 0x45)]
 CURVES = [*range(6), 0x10, 0x11, 0x20, 0x30, 0x31, 0x32, 0x40, 0x41]
@@ -27,12 +27,23 @@ CAPS = range(11)
 CAPACITIES = {
     0: (64, 128), 1: (128, 128), 2: (256, 128), 3: (256, 128), 4: (256, 128), 5: (8, 16), 6: (64, 128), 8: (64, 128), 9: (8, 16), 10: (8, 16),
 }
+# The structure tags, handle types and permanent handles that the crate's TpmSt, TpmHt and TpmRh have here (rebuilt/data/enum.rs). Of these ours
+# are the attestation types, the tags of each ticket, the handle types of NV areas, and the hierarchies.
+STRUCTURES = [0xC4, 0x8000, 0x8001, 0x8002, *ATTEST, 0x8021, 0x8022, 0x8023, 0x8024, 0x8025, 0x8029]
+TAGS = {17: [0x8021], 18: [0x8022], 19: [0x8024], 20: [0x8023, 0x8025]}
+# Kinds of a case that replace the hierarchy of a ticket.
+HIERARCHY_OF = dict(zip(range(31, 35), TAGS))
+HANDLES = [0x00, 0x01, 0x02, 0x03, 0x11, 0x12, 0x40, 0x80, 0x81, 0x90]
+AREAS = [0x01, 0x11, 0x12]
+PERMANENT = range(0x40000000, 0x4000000E)
+HIERARCHIES = [0x40000001, 0x40000007, 0x4000000B, 0x4000000C]
 # Selectors whose arm has a hash in the signing schemes, but for Hmac, and all that have an arm in the asymmetric ones.
 HASHED = [0x14, 0x16, 0x18, 0x1A, 0x1B, 0x1C]
 ASYM = [*HASHED, 0x17, 0x19, 0x1D, 0x15, 0x10]
 OBJECTS = [1, 8, 0x23, 0x25, 0x10]
 # Codes in and about the lists.
 NEAR = [*range(0x60), 0xFF, 0x100, 0x104, 0x110, 0x7FFF, 0xFFFF, *range(0x8000, 0x8030)]
+NEAR_BY_SIZE = {1: range(256), 2: NEAR, 4: [*NEAR, *(0x40000000 + near for near in NEAR), 0x01000040, 0x41000001, 0xC0000001, 0xFFFFFFFF]}
 
 
 def be(value, size):
@@ -229,8 +240,23 @@ class Maker:
         n = r.choice((0, 1, 1, 2, 2, 3, 4, 5, 6, 7, 8, 8, lesser, lesser + 1, greater)) if r.random() < .9 else r.randrange(greater + 1)
         return self.capability(cap, n)
 
+    def k16(self):
+        r = self.r
+        code = r.choice((r.choice(HANDLES), r.randrange(256))) if self.fault() else r.choice(AREAS)
+        area = r.choice(AREAS) if self.fault() else code
+        return be(code, 1) + self.num(4) + self.alg() + self.num(8 if area == 0x11 else 4) + self.buf(64) + self.num(2)
+
+    def ticket(self, kind):
+        r = self.r
+        tag, hierarchy = r.choice(TAGS[kind]), r.choice(HIERARCHIES)
+        if self.fault():
+            tag = r.choice(STRUCTURES) if r.random() < .6 else r.choice(NEAR)
+        if self.fault():
+            hierarchy = r.choice(PERMANENT) if r.random() < .6 else r.choice(NEAR_BY_SIZE[4])
+        return be(tag, 2) + be(hierarchy, 4) + self.buf(64)
+
     def record(self, kind):
-        return getattr(self, f'k{kind}')()
+        return self.ticket(kind) if kind in TAGS else getattr(self, f'k{kind}')()
 
 
 def damaged(r, data):
@@ -310,8 +336,8 @@ def smallest_of_each_layout(real):
 # Enough for any arm of the parameters, and for any digest.
 PARMS = '000b 0043 000b 0010' + '00' * 72
 DIGEST = bytes(range(64)).hex()
-# Where two bytes take all 65,536 values: `*` in a record of that kind. They are a code, or half of one, but for Ecdaa's count, and what follows
-# Xor's hash.
+# Where two bytes take all 65,536 values: `*` in a record of that kind. They are a code, or half of one, or the tag of a ticket, but for Ecdaa's count
+# and what follows Xor's hash; and a handle type, with the first byte of an index.
 SWEEPS = [
     (1, '*'), (1, f'* {DIGEST}'),
     (2, '* 0080 0043'), (2, '* 000b 0043'), (2, '0006 0080 *'), (2, '000a * 0043'), (2, '000a 000b *'), (2, '0013 0080 *'), (2, '0026 0080 *'),
@@ -328,6 +354,10 @@ SWEEPS = [
     (14, '00000001 * 00'),
     (15, '0000 * 00000000'), (15, '* 0008 00000000'), (15, '00000000 00000001 * 00000000'), (15, '00000005 00000001 * 00'),
     (15, '00000008 00000001 *'), (15, f'00000009 00000001 40000001 * {DIGEST}'),
+    (16, '* 800001 000b 00000004 0000 0008'), (16, '01 01800001 * 00000004 0000 0008'), (16, '11 01800001 * 0000000000000004 0000 0008'),
+    (16, '12 01800001 * 00000004 0000 0008'),
+    *((kind, '* 40000001 0000') for kind in TAGS), *((kind, f'{tags[-1]:04x} 4000 * 0000') for kind, tags in TAGS.items()),
+    (17, '8021 * 0001 0000'),
 ]
 
 
@@ -347,7 +377,7 @@ def put_whole(out, r, real):
 
 
 def put_small_changes(out, r, real):
-    """Of each layout the smallest record: cut at every byte, each bit of its first 48 bytes turned, each code replaced."""
+    """Of each layout the smallest record: cut at every byte, each bit of its first 48 bytes turned, each code and each tag replaced."""
     for kind, data, fields in smallest_of_each_layout(real):
         for size in range(len(data)):
             out.put('cut', kind, data[:size])
@@ -356,9 +386,9 @@ def put_small_changes(out, r, real):
             hit[bit // 8] ^= 1 << bit % 8
             out.put('bit', kind, bytes(hit))
         for field in fields:
-            if field['what'] == 'code':
-                at, size = field['place'], field['size']
-                for code in [*NEAR, *(r.randrange(65536) for _ in range(16))]:
+            at, size = field['place'], field['size']
+            if field['what'] == 'code' or kind in TAGS and at == 0:
+                for code in [*NEAR_BY_SIZE[size], *(r.randrange(min(65536, 256 ** size)) for _ in range(16))]:
                     out.put('code', kind, data[:at] + be(code, size) + data[at + size:])
 
 
@@ -403,7 +433,7 @@ def put_sweeps(out):
 
 def put_random(out, r, count):
     maker = Maker(r)
-    kinds = [*range(1, 9), 9, 9, 10, 10, 12, 12, 14, 14, 14, *[11] * 5, *[13] * 6, *[15] * 3]
+    kinds = [*range(1, 9), 9, 9, 10, 10, 12, 12, 14, 14, 14, *[11] * 5, *[13] * 6, *[15] * 3, 16, 16, 16, *TAGS]
     for turn in range(count):
         kind = kinds[turn % len(kinds)]
         maker.rate = r.choice((0, 0, 0, .05, .1, .3))

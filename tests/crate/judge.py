@@ -4,7 +4,8 @@ import re
 from collections import Counter
 from functools import cache
 
-from held import CRATES, INSIDE, OURS, Form, Held, OtherArm, Unread, claimed_items, codes_of, too_long_for
+from held import CRATES, INSIDE, OURS, OUTSIDE, Form, Held, OtherArm, Unread, claimed_items, codes_of, is_judged_less, too_long_for
+from inputs import HIERARCHY_OF, TAGS
 
 NUMBERS = {'UnexpectedEnd': 1, 'End': 1, 'Code': 2, 'VariantNotAvailable': 3, 'Length': 4, 'TooManyItems': 5, 'Value': 6, 'TrailingData': 11}
 SHORT = 1  # the one refusal that says how many bytes there were
@@ -21,7 +22,12 @@ LISTED = {
     'type': '2.5: an attestation type outside the eight (TpmsAttest::marshal is rebuilt)',
     'null cipher': '2.6: a Null cipher that holds another arm; the crate leaves both unions out',
     'room first': '2.6: the room ends ahead of a nested structure whose arm is wrong; the crate does not come to the arm',
+    'handle type': '2.5: a handle type outside the three',
+    'tag': '2.11: a tag that is not the ticket\'s; the crate has any structure tag',
+    'hierarchy': '2.11: a hierarchy outside the four; the crate has any permanent handle',
 }
+# Kinds of a case that replace what an owned record of the crate cannot have otherwise, and the kinds that they read.
+NOT_OWNED = {28: 13, 29: 12, 30: 15, 35: 16, **dict(zip(range(36, 40), TAGS))}
 LEFT = '2.6: what a refused writer left behind; the crate left bytes'
 # Kinds of a record in which the crate's offset is our place, counted from the record's start (docs/DIFFERENCES.md, 2.4).
 ONE_PLACE = (1, 3, 5, 6, 7, 8)
@@ -43,7 +49,7 @@ def hold(what, found, wanted):
 
 def kind_read(case):
     """The kind of the record that the case reads."""
-    return {28: 13, 29: 12, 30: 15}.get(case.kind) or INSIDE.get(case.kind, (case.kind,))[0]
+    return NOT_OWNED.get(case.kind) or HIERARCHY_OF.get(case.kind) or INSIDE.get(case.kind, (case.kind,))[0]
 
 
 def asked(case, told):
@@ -98,7 +104,7 @@ def judge_told(case, told, ours, count):
     if case.has_index:
         count_asked(told, count)
     if sort in LISTED:
-        return listed(count, LISTED[sort], 'rebuilt' if sort == 'type' else told['by'])
+        return listed(count, LISTED[sort], told['who'] if sort in ('type', 'handle type') else told['by'])
     count[f'{sort} {decided_by(case, told, sort)}'] += 1
     if told['left'] in (None, '-'):
         return ''
@@ -135,13 +141,15 @@ def judge_unread(case, words, ours, count):
 
 
 def foreseen(case, form):
-    """What the crate answers with its two arms in that form, but for who makes it and for the offset where a record is not read."""
+    """What the crate answers with all that has two forms in that form, but for who makes it and for the offset where a record is not read."""
     try:
-        held = Held(case.kind, case.code, case.first, case.second, form)
+        held = Held(NOT_OWNED.get(case.kind, case.kind), case.code, case.first, case.second, form)
     except Unread as unread:
         return 'refused', *unread.args
     except OtherArm:
         return ('another arm',)
+    if case.kind in NOT_OWNED:
+        return ('no such record: kind',)
     is_code = case.code in codes_of(case.kind)
     if not is_code or case.source:
         return (f'no such record: {"source" if is_code else "selector"}',)
@@ -163,12 +171,23 @@ def essence(line):
     return ('refused', words[1], words[3], int(words[5]), int(words[6])) if is_refused else (line,)
 
 
+def judged_less(case):
+    """Of a record that ours does not read, and the crate's text reads or refuses otherwise: which field it is."""
+    kind = kind_read(case)
+    if int.from_bytes(case.first[:2], 'big') in TAGS.get(kind, ()):
+        return 'hierarchy'
+    return OUTSIDE[kind]
+
+
 @cache
 def parted(case):
-    """The name of the difference, where the crate answers otherwise with the two arms in its own form than with them in ours; else ''.
+    """The name of the difference, where the crate answers otherwise with the two arms in its own form than with them in ours, or reads by its own
+    lists what we do not read; else ''.
 
     The case alone decides: from its bytes, its selector and its room both answers are foreseen.
     """
+    if is_judged_less(kind_read(case), case.first):
+        return LISTED[judged_less(case)]
     if case.kind not in TWO_FORMS or foreseen(case, CRATES) == foreseen(case, OURS):
         return ''
     return ECDAA_FORM if foreseen(case, Form(has_mode=False, has_count=False)) == foreseen(case, CRATES) else XOR_FORM
@@ -197,7 +216,7 @@ def long_for(case):
 
 
 def is_adapted(case):
-    """Whether we are held to the adapted text, in which lists have our capacities and the two arms our form."""
+    """Whether we are held to the adapted text, in which lists have our capacities, the two arms our form, and codes are judged by our lists."""
     return bool(long_for(case) or parted(case))
 
 
@@ -216,7 +235,8 @@ def judge(case, line, adapted, ours, count):
     """The class of the case, '' where the two sides agree. What is neither is raised.
 
     LINE is the crate's answer, ADAPTED the adapted text's, in which there is no such class as these: a list that is too long for one side, and
-    the two arms that have another form there. In these the crate must answer as that class says, and we are held to the adapted text.
+    what has another form there, or is judged by another list. In these the crate must answer as that class says, and we are held to the adapted
+    text.
     """
     if not is_adapted(case):
         return judge_line(case, line, ours, count)

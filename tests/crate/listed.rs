@@ -2,14 +2,15 @@
 //! be what that section says they are.
 
 use crate::answers::{Crates, Ours};
-use crate::forms::{Form, answer};
+use crate::forms::{Form, answer, is_structure_tag};
 use crate::unlike;
 use crate::words::{hex, number_of};
 
 const MAGIC: [u8; 4] = [0xff, 0x54, 0x43, 0x47];
 const QUOTE: u64 = 0x8018;
-/// The structure tags that the rebuilt `TpmSt` has besides the eight attestation types.
-const OTHER_TAGS: [u64; 10] = [0xc4, 0x8000, 0x8001, 0x8002, 0x8021, 0x8022, 0x8023, 0x8024, 0x8025, 0x8029];
+const ATTESTATION_TYPES: [u64; 8] = [0x8014, 0x8015, 0x8016, 0x8017, 0x8018, 0x8019, 0x801a, 0x801c];
+/// The handle types that the rebuilt `TpmHt` has besides the three of NV areas.
+const OTHER_HANDLE_TYPES: [u64; 7] = [0x00, 0x02, 0x03, 0x40, 0x80, 0x81, 0x90];
 
 /// A refusal of the crate: its name or fault, its value, and how many bytes were there where something is cut; else 0.
 type Fault = (&'static str, u64, usize);
@@ -156,7 +157,7 @@ fn capacity(kind: u32, input: &[u8]) -> Option<Listed> {
 
 /// 2.5: we refuse the type where it stands; the crate at the first field behind it that has a fault, or in the union.
 fn other_type(kind: u32, input: &[u8]) -> Option<Listed> {
-    let value = attestation_type(kind, input).filter(|tag| OTHER_TAGS.contains(tag))?;
+    let value = attestation_type(kind, input).filter(|tag| is_structure_tag(*tag) && !ATTESTATION_TYPES.contains(tag))?;
     let crates = match arm_place(input) {
         Ok(_) => ("text", ("VariantNotAvailable", value, 0)),
         Err(fault) => ("rebuilt", fault),
@@ -165,7 +166,15 @@ fn other_type(kind: u32, input: &[u8]) -> Option<Listed> {
     Some(Listed::refusal("2.5, an attestation type outside the eight", crates, here))
 }
 
-/// Alike in what is compared. Two refusals come up in kinds 9 and 11 alone, whose places are only bounded.
+/// 2.5: we refuse the type where it stands; the crate, where it comes to the union.
+fn other_handle_type(kind: u32, input: &[u8]) -> Option<Listed> {
+    let value = u64::from(*input.first().filter(|_| kind == 16)?);
+    let crates = ("text", ("VariantNotAvailable", value, 0));
+    let here = Here::Refused { number: 2, place: 0, value };
+    OTHER_HANDLE_TYPES.contains(&value).then(|| Listed::refusal("2.5, a handle type outside the three", crates, here))
+}
+
+/// Alike in what is compared. Two refusals come up in kinds 9, 11 and 17 to 20 alone, whose places are only bounded.
 fn is_alike(one: &Ours, other: &Ours) -> bool {
     match (one, other) {
         (Ours::Refused { number, value, had, .. }, Ours::Refused { number: n, value: v, had: h, .. }) => (number, value, had) == (n, v, h),
@@ -173,7 +182,8 @@ fn is_alike(one: &Ours, other: &Ours) -> bool {
     }
 }
 
-/// 2.10: behind the hash of Xor or Ecdaa each side goes on in its own form. Where both forms come to one answer, the input is of no class.
+/// 2.10: behind the hash of Xor or Ecdaa each side goes on in its own form. 2.11: so it does at the tag and the hierarchy of a ticket. Where both
+/// forms come to one answer, the input is of no class.
 fn forms(kind: u32, input: &[u8]) -> Option<Listed> {
     let (name, here) = answer(Form::Ours, kind, input)?;
     let (_, crates) = answer(Form::Crates, kind, input)?;
@@ -182,7 +192,7 @@ fn forms(kind: u32, input: &[u8]) -> Option<Listed> {
 
 /// The class that an input belongs to.
 pub fn class(kind: u32, input: &[u8]) -> Option<Listed> {
-    capacity(kind, input).or_else(|| other_type(kind, input)).or_else(|| forms(kind, input))
+    capacity(kind, input).or_else(|| other_type(kind, input)).or_else(|| other_handle_type(kind, input)).or_else(|| forms(kind, input))
 }
 
 impl Listed {

@@ -117,6 +117,11 @@ fn answer_kind(kind: u32, bytes: &[u8]) -> String {
         13 => answer::<TpmsAttest>(bytes, None),
         14 => answer::<TpmlPcrSelection>(bytes, Some(view_of_list)),
         15 => answer::<TpmsCapabilityData>(bytes, Some(view_of_capability)),
+        16 => answer::<TpmtNvPublic2>(bytes, Some(view_of::<TpmtNvPublic2>)),
+        17 => answer::<TpmtTkCreation>(bytes, Some(view_of::<TpmtTkCreation>)),
+        18 => answer::<TpmtTkVerified>(bytes, Some(view_of::<TpmtTkVerified>)),
+        19 => answer::<TpmtTkHashcheck>(bytes, Some(view_of::<TpmtTkHashcheck>)),
+        20 => answer::<TpmtTkAuth>(bytes, Some(view_of::<TpmtTkAuth>)),
         _ => panic!("kind {kind}"),
     }
 }

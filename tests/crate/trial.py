@@ -25,13 +25,13 @@ import places
 import writing
 from adapt import POINTS, adapt
 from changes import changes
-from held import TAGS, has_two_forms, too_long_for
-from inputs import ATTEST
+from held import has_two_forms, is_judged_less, too_long_for
+from inputs import ATTEST, STRUCTURES, TAGS
 from judge import ONE_PLACE, is_adapted, kind_read
 from sides import HERE, Claims, Ended, Reading, Writing, all_asked, answer, fail, is_built, parsed
 
 TEXT = HERE / 'text'
-# How often each sort of place is changed: 13 sorts of reading, 28 where differences are listed, 11 of writing and of the gate's answers.
+# How often each sort of place is changed: 13 sorts of reading, 37 where differences are listed, 11 of writing and of the gate's answers.
 ADAPTED_EACH, LISTED_EACH = 10, 4
 WRITING = {'what we write': 9, 'the gate\'s answers': 6}
 # A kind that is not the input's, and `read` for `refused`, are no answer to the input: there the comparison stops, and says so.
@@ -40,6 +40,8 @@ STOPS, STOPPED = ('kind', 'word'), b'ours, kind '
 TYPE_SORTS = {f'type {name}': (name,) for name in ('number', 'place', 'value')}
 # Places in a refusal of a list that is too long for us and not for the crate.
 COUNT_SORTS = {f'count {name}': (name,) for name in ('number', 'place', 'value')}
+# Places in a refusal of what the crate judges less: a handle type outside the three, a tag that is not the ticket's, a hierarchy outside the four.
+LESS_SORTS = {f'{what} {name}': (name,) for what in ('handle type', 'tag', 'hierarchy') for name in ('number', 'place', 'value')}
 # Places in an answer to an input with Xor or Ecdaa, where both sides answer what is listed, each in its form.
 FORM_SORTS = {
     f'form {name}': (name,) for name in ('consumed', 'tail', 'number', 'place', 'value', 'had', 'field_place', 'field_value', 'again_bytes')}
@@ -47,7 +49,14 @@ FORM_SORTS = {
 
 def is_other_type(kind, data):
     code = int.from_bytes(data[4:6], 'big')
-    return kind == 13 and data[:4] == b'\xffTCG' and code in TAGS and code not in ATTEST
+    return kind == 13 and data[:4] == b'\xffTCG' and code in STRUCTURES and code not in ATTEST
+
+
+def judged_less(kind, data):
+    """What of an NV area or of a ticket the crate judges less; '' if both sides come to one outcome."""
+    if not is_judged_less(kind, data):
+        return ''
+    return 'handle type' if kind == 16 else 'hierarchy' if int.from_bytes(data[:2], 'big') in TAGS[kind] else 'tag'
 
 
 def is_held_by_adapted(sort, asked):
@@ -61,6 +70,8 @@ def is_held_by_published(sort, asked):
         return is_other_type(*asked)
     if sort in COUNT_SORTS:
         return too_long_for(*asked) == 'us'
+    if sort in LESS_SORTS:
+        return judged_less(*asked) == sort.rsplit(' ', 1)[0]
     if sort in FORM_SORTS:
         return has_two_forms(*asked)
     return too_long_for(*asked) != 'crate' and is_held_by_adapted(sort, asked)
@@ -246,7 +257,7 @@ def main(folder, gate, ours):
     try_unchanged(sides, work)
     adapted, published = folder / 'adapted/reading', folder / 'published/reading'
     bad = try_our_reading(sides['reading'], work, adapted, 'same', places.READING_SORTS, ADAPTED_EACH, is_held_by_adapted)
-    listed = places.READING_SORTS | TYPE_SORTS | COUNT_SORTS | FORM_SORTS
+    listed = places.READING_SORTS | TYPE_SORTS | COUNT_SORTS | LESS_SORTS | FORM_SORTS
     bad += try_our_reading(sides['reading'], work, published, 'listed', listed, LISTED_EACH, is_held_by_published)
     for every, what in zip((sides['writing'].every, gates(folder, Path(gate))), WRITING):
         bad += try_our_writing(every, what)

@@ -70,6 +70,10 @@ impl<'a> Case<'a> {
     fn selector<C: TryFrom<u16>>(&self) -> Result<C, String> {
         C::try_from(self.selector).map_err(|_| NO_SELECTOR.to_string())
     }
+
+    fn selector_of_4<C: TryFrom<u32>>(&self) -> Result<C, String> {
+        C::try_from(u32::from(self.upper) << 16 | u32::from(self.selector)).map_err(|_| NO_SELECTOR.to_string())
+    }
 }
 
 fn said(error: TpmError) -> String {
@@ -164,12 +168,34 @@ fn hmac_inside(case: &Case) -> Result<String, String> {
 
 fn capability(case: &Case) -> Result<String, String> {
     let (mut record, tail) = case.first::<TpmsCapabilityData>()?;
-    let code = u32::from(case.upper) << 16 | u32::from(case.selector);
-    record.capability = TpmCap::try_from(code).map_err(|_| NO_SELECTOR.to_string())?;
+    record.capability = case.selector_of_4()?;
     told(case, &[record.data.matches_tag(record.capability)], &record, tail)
 }
 
-/// Kinds 28 to 30 change what an owned record of the crate cannot have otherwise; it can only be read.
+fn nv_public2(case: &Case) -> Result<String, String> {
+    let (mut record, tail) = case.first::<TpmtNvPublic2>()?;
+    let code = u8::try_from(case.selector).ok().and_then(|code| TpmHt::try_from(code).ok());
+    record.handle_type = code.ok_or(NO_SELECTOR.to_string())?;
+    told(case, &[record.public_area.matches_tag(record.handle_type)], &record, tail)
+}
+
+macro_rules! with_tag {
+    ($case:expr, $ty:ty) => {{
+        let (mut record, tail) = $case.first::<$ty>()?;
+        record.tag = $case.selector::<TpmSt>()?.into();
+        told($case, &[], &record, tail)
+    }};
+}
+
+macro_rules! with_hierarchy {
+    ($case:expr, $ty:ty) => {{
+        let (mut record, tail) = $case.first::<$ty>()?;
+        record.hierarchy = $case.selector_of_4()?;
+        told($case, &[], &record, tail)
+    }};
+}
+
+/// Kinds 28 to 30 and 35 to 39 change what an owned record of the crate cannot have otherwise; it can only be read.
 fn read_alone<T: TpmUnmarshal>(case: &Case) -> Result<String, String> {
     case.first::<T>()?;
     Err("no such record: kind".to_string())
@@ -195,6 +221,11 @@ fn answer(case: &Case) -> Result<String, String> {
             told(case, &[], &record, tail)
         }
         15 => capability(case),
+        16 => nv_public2(case),
+        17 => with_tag!(case, TpmtTkCreation),
+        18 => with_tag!(case, TpmtTkVerified),
+        19 => with_tag!(case, TpmtTkHashcheck),
+        20 => with_tag!(case, TpmtTkAuth),
         21 => hmac_inside(case),
         22 => inside!(case, KeyedHash, scheme, scheme, [details]),
         23 => inside!(case, SymCipher, sym, algorithm, [key_bits, mode]),
@@ -205,6 +236,15 @@ fn answer(case: &Case) -> Result<String, String> {
         28 => read_alone::<TpmsAttest>(case),
         29 => read_alone::<TpmtSensitive>(case),
         30 => read_alone::<TpmsCapabilityData>(case),
+        31 => with_hierarchy!(case, TpmtTkCreation),
+        32 => with_hierarchy!(case, TpmtTkVerified),
+        33 => with_hierarchy!(case, TpmtTkHashcheck),
+        34 => with_hierarchy!(case, TpmtTkAuth),
+        35 => read_alone::<TpmtNvPublic2>(case),
+        36 => read_alone::<TpmtTkCreation>(case),
+        37 => read_alone::<TpmtTkVerified>(case),
+        38 => read_alone::<TpmtTkHashcheck>(case),
+        39 => read_alone::<TpmtTkAuth>(case),
         _ => Err("no such record: kind".to_string()),
     }
 }

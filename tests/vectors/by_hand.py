@@ -4,7 +4,7 @@ import re
 from pathlib import Path
 
 import held
-from calls import NO_INDEX, Asked, Placed, call
+from calls import NO_INDEX, Asked, Placed, call, record_kind
 from records import blocks
 
 CASE = re.compile(r'(\d+) with (\d+)(?:, index (\d+))?: ([0-9A-F ]+)(?:; source ([0-9A-F ]+))?')
@@ -21,7 +21,7 @@ def case_by_hand(first, answer, found):
     if not words:
         raise SystemExit(f'cases.txt: {first}')
     kind, selector, index, data, source = words.groups()
-    record = next(r for r in found if r.data == bytes.fromhex(data))
+    record = next(r for r in found if (r.kind, r.data) == (record_kind(int(kind)), bytes.fromhex(data)))
     asked = Asked(int(kind), int(selector), index=NO_INDEX if index is None else int(index))
     lent = held.Source(bytes.fromhex(source), (), fault_of(answer)) if source else None
     made = call(asked, Placed(record), lent)

@@ -14,7 +14,10 @@ GREATEST_ROOM = 4096
 GREATEST_CASE = 8192
 NO_INDEX = 0xFFFF
 TWO_RECORDS = (2, 11)  # the mode, the unique part is that of a second record
-MAGIC, AUTH, LIST = 28, 29, 30  # what is replaced is no selector
+MAGIC, AUTH, LIST, POLICY = 28, 29, 30, 35  # what is replaced is no selector
+HIERARCHY_OF = dict(zip(range(31, 35), tables.TICKETS))  # of a ticket of which kind: its hierarchy, its digest
+DIGEST_OF = dict(zip(range(36, 40), tables.TICKETS))
+SPANS = (AUTH, LIST, POLICY, *DIGEST_OF)  # it is a span
 
 
 class Inner(NamedTuple):
@@ -34,12 +37,19 @@ INNER = {
     26: Inner(9, tables.ECC, 2, 7),
     27: Inner(9, tables.ECC, 3, 3),
 }
-CASE_KINDS = (*tables.KINDS, *INNER, MAGIC, AUTH, LIST)
+READ_BY = {MAGIC: 13, AUTH: 12, LIST: 15, POLICY: 16, **HIERARCHY_OF, **DIGEST_OF}
+CASE_KINDS = (*tables.KINDS, *INNER, *sorted(READ_BY))
+
+# Where the part that is replaced, and is no selector, stands in the row.
+PARTS = {
+    MAGIC: 0, AUTH: 1, LIST: 2, POLICY: 5, **dict.fromkeys(tables.TICKETS, 0), **dict.fromkeys(HIERARCHY_OF, 1),
+    **dict.fromkeys(DIGEST_OF, 2),
+}
 
 
 def record_kind(kind):
     """The kind of the record that a case of that kind reads."""
-    return INNER[kind].kind if kind in INNER else {MAGIC: 13, AUTH: 12, LIST: 15}.get(kind, kind)
+    return INNER[kind].kind if kind in INNER else READ_BY.get(kind, kind)
 
 
 def selectors_ahead(kind):
@@ -117,12 +127,13 @@ def replaced(asked, row):
     """The row with the case's number in its place, and where its selector stands (None where none is replaced)."""
     if asked.kind == 14:
         return row, None
-    if asked.kind == MAGIC:
-        return held.with_part(row, 0, row[0]._replace(value=asked.selector)), None
-    if asked.kind == AUTH:
-        return held.with_part(row, 1, row[1]._replace(span=held.Span(0, asked.selector))), None
-    if asked.kind == LIST:
-        return held.with_part(row, 2, row[2]._replace(span=held.Span(0, asked.selector))), None
+    if asked.kind in PARTS:
+        part = row[PARTS[asked.kind]]
+        if asked.kind in SPANS:
+            part = part._replace(span=held.Span(0, asked.selector))
+        else:
+            part = part._replace(value=asked.selector)
+        return held.with_part(row, PARTS[asked.kind], part), None
     index = held.selectors(row)[selectors_ahead(asked.kind)]
     return held.with_part(row, index, row[index]._replace(value=asked.selector)), index
 

@@ -7,7 +7,7 @@ import sweeps
 import tables
 from calls import INNER, record_kind
 
-FIELD_KINDS = (1, 10, 11, 12, 13, 14, 15, 21)  # those whose records have byte fields
+FIELD_KINDS = (1, *range(10, 22))  # those whose records have byte fields
 INDICES = (calls.NO_INDEX, 0, 1, 2, 3)
 AHEADS = (0, 3, 0, 1, 0, 9)
 
@@ -23,8 +23,13 @@ def ahead(turn):
 
 
 def held_arm(kind, record):
-    """The arm that the union holds whose selector a case of this kind replaces; None if there is no such union."""
+    """The arm that the union holds whose selector a case of this kind replaces; None if there is no such union.
+
+    Of a ticket, which has no union, its tag.
+    """
     row = held.row_of(record)
+    if record.kind in tables.TICKETS:
+        return row[0].value
     where = held.selectors(row)
     if kind in INNER and held.arms_by(row, where[0])[0].arm != INNER[kind].arm:
         return None
@@ -49,10 +54,12 @@ def with_every_arm(kind, found):
 
 
 def own_selector(kind, record):
-    """The selector that the record has; kind 14 has none, and any number can stand there."""
+    """The selector that the record has, or the tag; kind 14 has none, and any number can stand there."""
     if kind == 14:
         return tables.NULL
     row = held.row_of(record)
+    if kind in tables.TICKETS:
+        return row[0].value
     return row[held.selectors(row)[calls.selectors_ahead(kind)]].value
 
 
@@ -67,7 +74,20 @@ def listed_codes(kind):
 
 
 def unlisted_codes(kind):
-    return tables.unlisted(4 if kind == 15 else 2)
+    return tables.unlisted(kind, {15: 4, 16: 1}.get(kind, 2))
+
+
+def is_full(record):
+    """Whether no byte field is empty; of kind 15, whether its list has an item."""
+    if record.kind == 15:
+        return bool(held.items_of(record))
+    return all(span.length for span in held.spans(held.row_of(record)))
+
+
+def smallest_and_full(records):
+    """Of records that are alike: the first, and the first that is full, if that is another."""
+    full = [r for r in records if is_full(r)]
+    return records[:1] + [r for r in full[:1] if r != records[0]]
 
 
 def last_arm_bytes(record):

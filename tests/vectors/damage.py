@@ -87,7 +87,7 @@ def code_indices(record):
 
 
 def unlisted_at(record, index, turn):
-    choices = tables.unlisted(record.fields[index].size)
+    choices = tables.unlisted(record.kind, record.fields[index].size)
     code = choices[(turn + index) % len(choices)]
     return number_refused('code made unlisted', record, index, code, answers.UNKNOWN_CODE, turn)
 
@@ -104,7 +104,7 @@ def one_unlisted(record, turn):
 
 
 def armless(record, turn):
-    """Each selector made a listed code that has no arm there. (Every attestation type has one.)"""
+    """Each selector made a listed code that has no arm there. (Every attestation type and handle type has one.)"""
     changed = tried(record)
     for s in selectors(record):
         choices = tables.armless(s.union)
@@ -229,6 +229,15 @@ def magic(record, turn):
             yield number_refused('magic damaged', record, 0, value, answers.BAD_VALUE, turn)
 
 
+def tag(record, turn):
+    """The tag of a ticket: a bit turned, those of the other tickets, and a byte of it alone."""
+    if record.kind in tables.TICKETS:
+        own = record.fields[0].value
+        others = {own ^ 1 << turn % 16, own & 0xFF, own << 8 & 0xFFFF, *tables.EVERY_TAG}
+        for value in sorted(others - {*tables.TAGS[record.kind]}):
+            yield number_refused('tag damaged', record, 0, value, answers.BAD_VALUE, turn)
+
+
 def yes_no_indices(record):
     counts = byte_counts(record)
     return [i for i, f in enumerate(record.fields) if f.what == 'number' and f.size == 1 and i not in counts]
@@ -244,8 +253,8 @@ def yes_no(record, turn):
 def free_numbers(record):
     """The numbers that have no rule."""
     ruled = set(byte_counts(record)) | set(yes_no_indices(record)) | {list_count(record)}
-    if record.kind == 13:
-        ruled.add(0)
+    if record.kind in (13, *tables.TICKETS):
+        ruled.add(0)  # the magic, the tag
     return [i for i, f in enumerate(record.fields) if f.what == 'number' and i not in ruled]
 
 
@@ -264,6 +273,6 @@ def extreme_numbers(record, _turn):
 # What one record of each layout goes through, and what every real record goes through.
 FOR_EACH_LAYOUT = (
     tail, cuts, unlisted, armless, made_null, too_long, body_missing, at_limits, last_body, too_many,
-    pcr_too_long, other_count, magic, yes_no, extreme_numbers,
+    pcr_too_long, other_count, magic, tag, yes_no, extreme_numbers,
 )
 FOR_EACH_RECORD = (one_cut, one_unlisted)

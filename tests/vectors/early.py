@@ -10,12 +10,12 @@ from calls import CASE_KINDS, INNER, TWO_RECORDS, Asked, record_kind, refused_ca
 from choice import INDICES, ahead, by_arm, filler, own_selector, with_every_arm
 
 FIRST, SECOND = 'first record refused', 'second record refused'
-BAD_KINDS = (0, 16, 20, 31, 255)
+BAD_KINDS = (0, 40, 128, 255)
 PAST_THE_END = 0xFFFF
 UNLISTED = tables.UNLISTED[0]
 FAULTS = (
     damage.one_cut, damage.one_unlisted, damage.armless, damage.too_long, damage.body_missing, damage.too_many,
-    damage.pcr_too_long, damage.magic, damage.yes_no,
+    damage.pcr_too_long, damage.magic, damage.tag, damage.yes_no,
 )
 
 
@@ -61,7 +61,7 @@ def first_refused(layouts):
 
 def no_first(kind):
     """The place of the record is where the records end, or past it."""
-    size = 4 if record_kind(kind) in (13, 14, 15) else 2  # of the first field
+    size = {13: 4, 14: 4, 15: 4, 16: 1}.get(record_kind(kind), 2)  # of the first field
     records = filler(3, kind)
     for place in (len(records), PAST_THE_END):
         refusal = answers.short(place, size, len(records))

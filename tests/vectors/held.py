@@ -161,8 +161,9 @@ class Rows:
             self.row.append(Buffer(self.span(self.take('bytes')), detail))
         elif what == 'bytes':
             self.row.append(Digest(self.span(self.take('bytes', detail))))
-        elif what == 'magic':
-            self.row.append(Number(4, self.take('number', 4).value, (tables.MAGIC,)))
+        elif what == 'fixed':
+            size, allowed = detail
+            self.row.append(Number(size, self.take('number', size).value, allowed))
         elif what == 'number':
             allowed = YES_OR_NO if (what, detail) == tables.YES_NO else None
             self.row.append(Number(detail, self.take('number', detail).value, allowed))

@@ -3,7 +3,9 @@
 import held
 import tables
 from calls import TWO_RECORDS, Asked, Placed, call
-from choice import FIELD_KINDS, ahead, another_of_its_arm, by_arm, own_selector, unions_of, unlisted_codes
+from choice import (
+    FIELD_KINDS, ahead, another_of_its_arm, by_arm, own_selector, smallest_and_full, unions_of, unlisted_codes,
+)
 
 
 # ---- Spans past the end
@@ -60,21 +62,20 @@ def other_bytes(kind, code, placed):
 # ---- For which records
 
 
-def is_full(record):
-    """Whether no byte field is empty; of kind 15, whether its list has an item."""
-    if record.kind == 15:
-        return bool(held.items_of(record))
-    return all(span.length for span in held.spans(held.row_of(record)))
-
-
 def with_sources(found):
     """For each kind and arm with byte fields: its smallest record, and the smallest that is full."""
     for kind in FIELD_KINDS:
         alike = by_arm(kind, found).values() if kind != 14 else [[r] for r in found if r.kind == 14]
         for records in alike:
-            full = [r for r in records if is_full(r)]
-            for record in records[:1] + [r for r in full[:1] if r != records[0]]:
+            for record in smallest_and_full(records):
                 yield kind, record
+
+
+def other_selectors(kind, turn):
+    """What is put in place of a selector, or of a tag; kind 14 has none."""
+    if kind in tables.TICKETS:
+        return tables.EVERY_TAG
+    return (*tables.arms_of(unions_of(kind)[0]), tables.AES, unlisted_codes(kind)[turn % 9]) if kind != 14 else ()
 
 
 def other_sources(found):
@@ -83,8 +84,6 @@ def other_sources(found):
         second = another_of_its_arm(record, found) if kind in TWO_RECORDS and turn % 2 else None
         placed = Placed(record, ahead(turn), b'', second)
         yield from cut_sources(kind, code, placed)
-        if kind != 14:
-            codes = (*tables.arms_of(unions_of(kind)[0]), tables.AES, unlisted_codes(kind)[turn % 9])
-            yield from cut_and_other_selector(kind, codes, placed)
+        yield from cut_and_other_selector(kind, other_selectors(kind, turn), placed)
         if held.list_span(placed.row) is None:
             yield from other_bytes(kind, code, placed)

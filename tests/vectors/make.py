@@ -25,7 +25,7 @@ HERE = Path(__file__).resolve().parent
 CRATES = HERE.parent.parent / 'crates'
 README = HERE / 'README.md'
 DEPOSIT_COUNTS, CALL_COUNTS, COUNTS_END = '```counts\n', '```calls\n', '```\n'
-BAD_KINDS = (0, 16, 255)
+BAD_KINDS = (0, 21, 255)
 FIRST_EXAMPLE = bytes.fromhex('02 0006 0080 0043')  # of docs/FORMAT.md, section 11
 
 
@@ -74,7 +74,7 @@ def edges(first_of_kind):
     for turn, record in enumerate(first_of_kind.values()):
         for kind in BAD_KINDS:
             yield bad_kind('kind byte wrong', kind, record.data)
-        yield from padded(record, bytes([turn * 17]))
+        yield from padded(record, bytes([turn * 17 % 256]))
     for kind in BAD_KINDS:
         yield bad_kind('4,097 bytes, kind wrong', kind, bytes(tables.GREATEST_INPUT + 1))
 
@@ -86,7 +86,7 @@ def padded(record, filler):
     tail = filler * room
     yield damage.whole('4,096 bytes, read', record, tail)
     index = damage.code_indices(record)[0]
-    choices = tables.unlisted(record.fields[index].size)
+    choices = tables.unlisted(record.kind, record.fields[index].size)
     code = choices[filler[0] % len(choices)]
     faulty = records.with_number(record, index, code).data + tail
     refusal = (answers.UNKNOWN_CODE, record.fields[index].place, code)
@@ -114,6 +114,17 @@ def require_every_arm(found):
             raise SystemExit(f'no record has the arms {missed} of the {union} union')
 
 
+def require_greatest(shelf):
+    """The longest record of each kind that is read is as long as the greatest record of that kind."""
+    longest = Counter()
+    for answer in shelf.answers.values():
+        _, kind, what, size, *_ = answer.split()
+        if what == 'read':
+            longest[int(kind)] = max(longest[int(kind)], int(size))
+    if longest != tables.GREATEST:
+        raise SystemExit(f'the longest records that are read have the sizes {dict(sorted(longest.items()))}')
+
+
 def listed_samples(samples):
     """The records of those samples that are read."""
     return [record for record in (records.record_of_sample(*s) for s in samples) if record]
@@ -136,6 +147,7 @@ def fill(real, samples):
             for turn, record in enumerate(chosen):
                 shelf.put_all(make(record, turn))
     shelf.put_all(sweeps.sweeps())
+    require_greatest(shelf)
     return shelf, {'real records': len(real), 'samples': len(samples), 'layouts': len(layouts)}
 
 

@@ -25,7 +25,7 @@ class Record(NamedTuple):
 
     @property
     def first_code(self):
-        """The code that chooses the record's arm; None for a kind 14 without items."""
+        """The code that chooses the record's arm, if it has one; None for a kind 14 without items."""
         return next((f.value for f in self.fields if f.what == 'code'), None)
 
     @property
@@ -180,7 +180,7 @@ def items(record):
 
 def selectors(record):
     """The fields that choose an arm, in wire order."""
-    if record.kind == 14:
+    if record.kind not in tables.UNION_OF_KIND:
         return []
     index, ahead = {11: (0, 5), 12: (0, 5), 13: (1, 11)}.get(record.kind, (0, 1))
     outer = Selector(index, tables.UNION_OF_KIND[record.kind], ahead, record.fields[ahead - 1].end, True)

@@ -1,6 +1,7 @@
 """Codes tried one after another, in short records: as each union's selector, and where a code chooses nothing.
 
-The same numbers are tried where none is judged: as the count of Ecdaa, and behind a Xor cipher.
+The same numbers are tried where none is judged: as the count of Ecdaa, and behind a Xor cipher. And tags are
+tried, which are no codes.
 These answers come from the tables alone: no decoded record has all of these codes.
 """
 
@@ -15,6 +16,8 @@ from tables import CODE, NULL, buffer, number
 ALGORITHMS_TRIED = [*range(0x50), 0x0104, 0x0110, 0x1000, 0x8014, 0x8018, 0xFFFF]
 CAPABILITIES_TRIED = [*range(0x20), *tables.UNLISTED_CAPABILITIES, *(code << 24 for code in tables.CAPABILITIES[1:])]
 TYPES_TRIED = [*range(0x8000, 0x8030), 0x0010, 0x0014, 0x0018, 0x1480, 0x7F18, 0x8118, 0xFFFF]
+HIERARCHIES_TRIED = [*range(0x40000000, 0x40000020), *tables.UNLISTED_HIERARCHIES]
+TAGS_TRIED = [*range(0x8010, 0x8030), 0, 0x10, *range(0x20, 0x27), 0x2180, 0x2580, 0x7FFF, 0x8121, 0xC021, 0xFFFF]
 REFUSED = 'code tried, refused'
 
 
@@ -72,6 +75,7 @@ XOR, ECDAA = code(tables.XOR), code(tables.ECDAA)
 COMMAND_AUDIT = (*ATTEST_FRONT, code(tables.COMMAND_AUDIT), *ATTEST_MIDDLE, number(8))
 QUOTE_ITEM = (*ATTEST_FRONT, code(tables.QUOTE), *ATTEST_MIDDLE, ('number', 4, 1))
 NO_BITS = (('number', 1, 0), ('bytes', 0, ''))
+OWNER, EMPTY = code(tables.OWNER, 4), (('number', 2, 0), ('bytes', 0, ''))
 SECOND_POLICY = (*capability_list(tables.AUTH_POLICIES, 2), number(4), CODE, number(4))
 
 SELECTORS = [
@@ -92,6 +96,7 @@ SELECTORS = [
     Place(13, ATTEST_FRONT, ATTEST_MIDDLE, ('attestation',), (), tables.ATTESTATION_TYPES, TYPES_TRIED),
     Place(15, (), (), ('capabilities',), (), tables.CAPABILITIES, CAPABILITIES_TRIED, 4),
     Place(15, SECOND_POLICY, (), ('digest',)),
+    Place(16, (), (), ('area',), (), tables.HANDLE_TYPES, range(0x100), 1),
 ]
 
 PLAIN_CODES = [
@@ -117,6 +122,17 @@ PLAIN_CODES = [
     Place(15, (*capability_list(tables.ALGS, 2), CODE, number(4)), behind=(number(4),)),
     Place(15, (*capability_list(tables.PCRS, 2), CODE, *NO_BITS), behind=NO_BITS),
     Place(15, (*capability_list(tables.ECC_CURVES, 2), code(tables.CURVES[0])), listed=tables.CURVES),
+    *(Place(16, (code(held, 1), *arm[:1]), behind=arm[2:]) for held, arm in tables.ARMS['area'].items()),
+    *(
+        Place(kind, (('number', 2, tag),), (), (), (buffer(tables.DIGEST),), tables.HIERARCHIES, HIERARCHIES_TRIED, 4)
+        for kind, tags in tables.TAGS.items() for tag in tags
+    ),
+]
+
+# Where a ticket's tag is tried.
+TICKETS = [
+    Place(kind, (), behind=(OWNER, *EMPTY), listed=tags, tried=TAGS_TRIED)
+    for kind, tags in tables.TAGS.items()
 ]
 
 # Where Ecdaa's count is tried.
@@ -159,6 +175,15 @@ def tried(place, number_tried):
             yield ('code tried, cut', *damage.cut_at(record, due)[1:])
 
 
+def tag_tried(place, number_tried):
+    """A tag is judged as a number that is fixed: read, or refused for its value."""
+    record = built(place.kind, (('number', 2, number_tried), *place.behind))
+    if number_tried in place.listed:
+        yield damage.whole('tag tried, read', record)
+    else:
+        yield damage.refused('tag tried, refused', place.kind, record.data, (answers.BAD_VALUE, 0, number_tried))
+
+
 def count_tried(place, number_tried):
     """A count is any number, listed as a code or not: read, and refused only when its last byte is cut away."""
     due = len(built(place.kind, place.ahead).data)
@@ -173,7 +198,8 @@ def behind_xor(place, number_tried):
 
 
 def sweeps():
-    for places, make in ((SELECTORS + PLAIN_CODES, tried), (COUNTS, count_tried), (XOR_LAST, behind_xor)):
+    makers = ((SELECTORS + PLAIN_CODES, tried), (TICKETS, tag_tried), (COUNTS, count_tried), (XOR_LAST, behind_xor))
+    for places, make in makers:
         for place in places:
             for number_tried in place.tried:
                 yield from make(place, number_tried)

@@ -1,4 +1,4 @@
-"""The lists, arms, limits and forms of docs/FORMAT.md (sections 3 to 7), written out by hand.
+"""The lists, tags, arms, limits, forms and greatest sizes of docs/FORMAT.md (sections 3 to 7), written out by hand.
 
 They say which codes a copy may be damaged with, and what a selector or a length is then refused for.
 No bytes are parsed with them: where a record's fields stand is known from its decoded fields alone.
@@ -20,11 +20,19 @@ ALGORITHMS = codes('01, 03-08, 0A-0D, 10, 12-1D, 20-23, 25-2E, 3F-44')
 CURVES = codes('0-5, 10, 11, 20, 30-32, 40, 41')
 ATTESTATION_TYPES = codes('8014, 8015, 8016, 8017, 8018, 8019, 801A, 801C')
 CAPABILITIES = codes('0-A')
+HANDLE_TYPES = codes('01, 11, 12')
+HIERARCHIES = codes('40000001, 40000007, 4000000B, 4000000C')
 
 # On none of the three lists of codes of 2 bytes: neighbours of listed codes, listed ones with a bit added, the
 # ends of the range. And of 4 bytes, no capabilities: the first of these, and listed ones in each other byte.
+# And no handle types, of 1 byte, and no hierarchies: neighbours again, and listed ones without their first byte.
 UNLISTED = codes('09, 0E, 0F, 1E, 1F, 24, 2F, 45, FF, 0104, 0110, 7FFF, 8000, 8013, 801B, 801D, 8021, FFFF')
 UNLISTED_CAPABILITIES = codes('0B, 0C, 10, 18, 0106, 0800, FFFF, 00010008, 00090000, 04000000, 80000005, FFFFFFFF')
+UNLISTED_HANDLE_TYPES = codes('00, 02, 03, 10, 13, 21, 40, 80, 81, 90, 91, FF')
+UNLISTED_HIERARCHIES = codes(
+    '00, 01, 07, 0B, 0C, 40000000, 40000002, 40000006, 40000008, 4000000A, 4000000D, 40000010, 40000101, 41000001, '
+    '01000040, C0000001, FFFFFFFF'
+)
 
 RSA, SHA1, HMAC, AES, MGF1, KEYEDHASH = 0x01, 0x04, 0x05, 0x06, 0x07, 0x08
 XOR, SHA256, SHA384, SHA512, NULL = 0x0A, 0x0B, 0x0C, 0x0D, 0x10
@@ -37,6 +45,13 @@ NV, COMMAND_AUDIT, SESSION_AUDIT, CERTIFY = 0x8014, 0x8015, 0x8016, 0x8017
 QUOTE, TIME, CREATION, NV_DIGEST = 0x8018, 0x8019, 0x801A, 0x801C
 ALGS, HANDLES, COMMANDS, PP_COMMANDS, AUDIT_COMMANDS, PCRS, TPM_PROPERTIES = range(7)
 ECC_CURVES, AUTH_POLICIES, ACT = 8, 9, 10
+NV_INDEX, EXTERNAL_NV, PERMANENT_NV = 0x01, 0x11, 0x12
+OWNER = 0x40000001
+
+# The tags that the ticket of each kind may have: a tag is a fixed value, and no code.
+TAGS = {17: (0x8021,), 18: (0x8022,), 19: (0x8024,), 20: (0x8023, 0x8025)}
+TICKETS = tuple(TAGS)
+EVERY_TAG = tuple(tag for tags in TAGS.values() for tag in tags)
 
 MAGIC = 0xFF544347
 GREATEST_PCR_SIZE = 4
@@ -50,6 +65,8 @@ CODE = ('code', 2)
 CURVE = ('curve', 2)
 ATTESTATION_TYPE = ('type', 2)
 CAPABILITY = ('capability', 4)
+HANDLE_TYPE = ('handle type', 1)
+HIERARCHY = ('hierarchy', 4)
 YES_NO = ('number', 1)
 PCR_BITS = ('bits', GREATEST_PCR_SIZE)  # behind their size
 NOTHING = ()
@@ -57,6 +74,11 @@ NOTHING = ()
 
 def number(size):
     return ('number', size)
+
+
+def fixed(size, *values):
+    """A number that is one of these."""
+    return ('fixed', (size, values))
 
 
 def plain(size):
@@ -98,6 +120,12 @@ LISTS = {
 }
 
 CLOCK_INFO = (number(8), number(4), number(4), YES_NO)
+
+
+def area(attributes):
+    """An NV area whose attributes have that size."""
+    return (number(4), CODE, number(attributes), buffer(DIGEST), number(2))
+
 
 ARMS = {
     'digest': {
@@ -181,18 +209,29 @@ ARMS = {
         AUTH_POLICIES: (list_of('policies'),),
         ACT: (list_of('timers'),),
     },
+    'area': {
+        NV_INDEX: area(4),
+        EXTERNAL_NV: area(8),
+        PERMANENT_NV: area(4),
+    },
 }
 
-# The union that the first code of a record chooses from. Kind 14 has none.
+# The union that the first code of a record chooses from. Kind 14 and the tickets have none.
 UNION_OF_KIND = {
     1: 'digest', 2: 'cipher', 3: 'kdf', 4: 'keyed hash', 5: 'signing', 6: 'asymmetric', 7: 'asymmetric',
     8: 'asymmetric', 9: 'parameters', 10: 'signature', 11: 'parameters', 12: 'sensitive', 13: 'attestation',
-    15: 'capabilities',
+    15: 'capabilities', 16: 'area',
 }
-KINDS = range(1, 16)
+KINDS = range(1, 21)
+
+# The greatest size of a record of each kind.
+GREATEST = {
+    1: 66, 2: 6, 3: 4, **dict.fromkeys(range(4, 9), 6), 9: 20, 10: 518, 11: 606, 12: 392, 13: 2287, 14: 116, 15: 1128,
+    16: 83, **dict.fromkeys(TICKETS, 72),
+}
 
 # The codes that a union's selector may be; where nothing stands here, the algorithms.
-SELECTORS_OF_UNION = {'attestation': ATTESTATION_TYPES, 'capabilities': CAPABILITIES}
+SELECTORS_OF_UNION = {'attestation': ATTESTATION_TYPES, 'capabilities': CAPABILITIES, 'area': HANDLE_TYPES}
 
 # The unions inside of an arm of the parameters, in wire order; with Ecc a curve stands ahead of the last.
 UNIONS_OF_PARAMETERS = {
@@ -200,8 +239,8 @@ UNIONS_OF_PARAMETERS = {
     ECC: ['cipher', 'asymmetric', 'kdf'], NULL: [],
 }
 
-# The limits of the buffers that stand ahead of a kind's arms.
-LIMITS_AHEAD = {11: [DIGEST], 12: [AUTH, DIGEST], 13: [NAME, DATA]}
+# The limits of the buffers that stand ahead of a kind's arms; a ticket has no arm.
+LIMITS_AHEAD = {11: [DIGEST], 12: [AUTH, DIGEST], 13: [NAME, DATA], **dict.fromkeys(TICKETS, [DIGEST])}
 
 
 def armless(union):
@@ -209,9 +248,11 @@ def armless(union):
     return [code for code in SELECTORS_OF_UNION.get(union, ALGORITHMS) if code not in ARMS[union]]
 
 
-def unlisted(size):
-    """The codes of that size that are on no list."""
-    return UNLISTED_CAPABILITIES if size == 4 else UNLISTED
+def unlisted(kind, size):
+    """Codes of that size that are on no list that a record of the kind goes by."""
+    if size == 1:
+        return UNLISTED_HANDLE_TYPES
+    return UNLISTED if size == 2 else UNLISTED_CAPABILITIES if kind == 15 else UNLISTED_HIERARCHIES
 
 
 def list_held(capability):
@@ -235,16 +276,20 @@ def fields_of(part, value):
 
 def limits(kind, selector):
     """The limits of the buffers of a record, in wire order."""
-    if kind not in (10, 11, 12, 13):
-        return []
+    ahead = LIMITS_AHEAD.get(kind, [])
+    if kind not in (10, 11, 12, 13, 16):
+        return ahead
     union = 'unique' if kind == 11 else UNION_OF_KIND[kind]
-    return LIMITS_AHEAD.get(kind, []) + [limit for what, limit in ARMS[union][selector] if what == 'buffer']
+    return ahead + [limit for what, limit in ARMS[union][selector] if what == 'buffer']
 
 
 # ---- The record as a writer sees it
 
 # The list that a code is on.
-LISTED = {'code': ALGORITHMS, 'curve': CURVES, 'type': ATTESTATION_TYPES, 'capability': CAPABILITIES}
+LISTED = {
+    'code': ALGORITHMS, 'curve': CURVES, 'type': ATTESTATION_TYPES, 'capability': CAPABILITIES,
+    'handle type': HANDLE_TYPES, 'hierarchy': HIERARCHIES,
+}
 
 # The selectors that share an arm (section 6). Every other selector has an arm of its own, even where its
 # fields are those of another. A digest's arm is told by its length.
@@ -282,9 +327,11 @@ FORMS = {
     **{kind: (CODE, arm_of(UNION_OF_KIND[kind])) for kind in (1, 3, 4, 5, 6, 7, 8, 9, 10)},
     11: (CODE, CODE, number(4), buffer(DIGEST), arm_of('parameters'), arm_of('unique')),
     12: (CODE, buffer(AUTH), buffer(DIGEST), arm_of('sensitive')),
-    13: (('magic', 4), ATTESTATION_TYPE, buffer(NAME), buffer(DATA), *CLOCK_INFO, number(8), arm_of('attestation')),
+    13: (fixed(4, MAGIC), ATTESTATION_TYPE, buffer(NAME), buffer(DATA), *CLOCK_INFO, number(8), arm_of('attestation')),
     14: (list_of('banks'),),
     15: (CAPABILITY, arm_of('capabilities')),
+    16: (HANDLE_TYPE, arm_of('area')),
+    **{kind: (fixed(2, *tags), HIERARCHY, buffer(DIGEST)) for kind, tags in TAGS.items()},
 }
 
 

@@ -4,6 +4,11 @@ use crate::case::Case;
 use crate::said::room_for;
 use crate::said::say_parts;
 use crate::said::say_written;
+use areas::tpmt::TpmtNvPublic2;
+use areas::tpmt::TpmtTkAuth;
+use areas::tpmt::TpmtTkCreation;
+use areas::tpmt::TpmtTkHashcheck;
+use areas::tpmt::TpmtTkVerified;
 use attest::attestation::TpmsAttest;
 use attest::list::TpmlPcrSelection;
 use capabilities::tpms::TpmsCapabilityData;
@@ -285,6 +290,105 @@ pub fn tpms_capability_data_asked(
     src: &[u8],
     out: &mut [u8],
 ) {
+    let measured = y.measure(src);
+    let room = room_for(measured, out.len());
+    let written = y.marshal(src, &mut out[..room]);
+    say_written(case, measured, written, out);
+    say_parts(
+        case,
+        tail,
+        y.field_size(src, case.index),
+        y.field(src, case.index),
+        y.item_size(src, case.index),
+        y.item(src, case.index),
+    );
+}
+
+pub fn tpmt_nv_public2_asked(
+    case: Case,
+    y: TpmtNvPublic2,
+    tail: &[u8],
+    src: &[u8],
+    out: &mut [u8],
+) {
+    let measured = y.measure(src);
+    let room = room_for(measured, out.len());
+    let written = y.marshal(src, &mut out[..room]);
+    say_written(case, measured, written, out);
+    say_parts(
+        case,
+        tail,
+        y.field_size(src, case.index),
+        y.field(src, case.index),
+        y.item_size(src, case.index),
+        y.item(src, case.index),
+    );
+}
+
+pub fn tpmt_tk_creation_asked(
+    case: Case,
+    y: TpmtTkCreation,
+    tail: &[u8],
+    src: &[u8],
+    out: &mut [u8],
+) {
+    let measured = y.measure(src);
+    let room = room_for(measured, out.len());
+    let written = y.marshal(src, &mut out[..room]);
+    say_written(case, measured, written, out);
+    say_parts(
+        case,
+        tail,
+        y.field_size(src, case.index),
+        y.field(src, case.index),
+        y.item_size(src, case.index),
+        y.item(src, case.index),
+    );
+}
+
+pub fn tpmt_tk_verified_asked(
+    case: Case,
+    y: TpmtTkVerified,
+    tail: &[u8],
+    src: &[u8],
+    out: &mut [u8],
+) {
+    let measured = y.measure(src);
+    let room = room_for(measured, out.len());
+    let written = y.marshal(src, &mut out[..room]);
+    say_written(case, measured, written, out);
+    say_parts(
+        case,
+        tail,
+        y.field_size(src, case.index),
+        y.field(src, case.index),
+        y.item_size(src, case.index),
+        y.item(src, case.index),
+    );
+}
+
+pub fn tpmt_tk_hashcheck_asked(
+    case: Case,
+    y: TpmtTkHashcheck,
+    tail: &[u8],
+    src: &[u8],
+    out: &mut [u8],
+) {
+    let measured = y.measure(src);
+    let room = room_for(measured, out.len());
+    let written = y.marshal(src, &mut out[..room]);
+    say_written(case, measured, written, out);
+    say_parts(
+        case,
+        tail,
+        y.field_size(src, case.index),
+        y.field(src, case.index),
+        y.item_size(src, case.index),
+        y.item(src, case.index),
+    );
+}
+
+pub fn tpmt_tk_auth_asked(case: Case, y: TpmtTkAuth, tail: &[u8], src: &[u8], out: &mut [u8]) {
     let measured = y.measure(src);
     let room = room_for(measured, out.len());
     let written = y.marshal(src, &mut out[..room]);

@@ -2,7 +2,7 @@
 
 pub struct Case {
     pub kind: u8,
-    // The code that is put in place of the record's own.
+    // The code, or another number, that is put in place of the record's own.
     pub selector: u16,
     // Its upper two bytes, where it has four.
     pub upper: u16,

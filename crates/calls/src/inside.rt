@@ -1,7 +1,8 @@
-// A selector further in that is replaced, or a part that no reader would make: kinds 21 to 30 of a case. Another arm than the one that a
-// case is about is a kind that there is not.
+// A selector further in that is replaced, or a part that no reader would make: kinds 21 to 30 and 35 of a case. Another arm than the one
+// that a case is about is a kind that there is not.
 use crate::asked::tpms_attest_asked;
 use crate::asked::tpms_capability_data_asked;
+use crate::asked::tpmt_nv_public2_asked;
 use crate::asked::tpmt_public_parms_asked;
 use crate::asked::tpmt_sensitive_asked;
 use crate::asked::tpmt_signature_asked;
@@ -13,6 +14,11 @@ use crate::under::tpmt_kdf_scheme_under;
 use crate::under::tpmt_keyedhash_scheme_under;
 use crate::under::tpmt_rsa_scheme_under;
 use crate::under::tpmt_sym_def_under;
+use areas::tpms::TpmsNvPublic;
+use areas::tpms::TpmsNvPublicExpAttr;
+use areas::tpmt::TpmtNvPublic2;
+use areas::tpmt::TpmtNvPublic2Read;
+use areas::tpmu::TpmuNvPublic2;
 use attest::attestation::TpmsAttest;
 use attest::attestation::TpmsAttestRead;
 use attest::list::TpmlPcrSelection;
@@ -297,5 +303,50 @@ pub fn other_list(case: Case, s: &[u8], src: &[u8], out: &mut [u8]) {
             out,
         ),
         TpmsCapabilityDataRead::No(f) => say_refusal(case.kind, f),
+    }
+}
+
+fn with_area_policy(area: TpmsNvPublic, policy: Span) -> TpmsNvPublic {
+    let mut y = area;
+    y.auth_policy = policy;
+    y
+}
+
+fn with_expanded_policy(area: TpmsNvPublicExpAttr, policy: Span) -> TpmsNvPublicExpAttr {
+    let mut y = area;
+    y.auth_policy = policy;
+    y
+}
+
+// The same arm with another policy.
+fn with_policy(held: TpmuNvPublic2, policy: Span) -> TpmuNvPublic2 {
+    match held {
+        TpmuNvPublic2::NvIndex(p) => TpmuNvPublic2::NvIndex(with_area_policy(p, policy)),
+        TpmuNvPublic2::ExternalNv(p) => TpmuNvPublic2::ExternalNv(with_expanded_policy(p, policy)),
+        TpmuNvPublic2::PermanentNv(p) => TpmuNvPublic2::PermanentNv(with_area_policy(p, policy)),
+    }
+}
+
+fn with_other_policy(case: Case, x: TpmtNvPublic2) -> TpmtNvPublic2 {
+    let handle_type = x.handle_type;
+    let held = x.public_area;
+    let public_area = with_policy(held, Span::new(0, case.selector as usize));
+    TpmtNvPublic2 {
+        handle_type,
+        public_area,
+    }
+}
+
+// 35: the policy of an NV area is a span from the source's start, as long as the selector says.
+pub fn other_policy(case: Case, s: &[u8], src: &[u8], out: &mut [u8]) {
+    match TpmtNvPublic2::unmarshal(s, case.first) {
+        TpmtNvPublic2Read::Found(x, end) => tpmt_nv_public2_asked(
+            case,
+            with_other_policy(case, x),
+            tail_of(s, end),
+            src,
+            out,
+        ),
+        TpmtNvPublic2Read::No(f) => say_refusal(case.kind, f),
     }
 }

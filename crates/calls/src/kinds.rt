@@ -6,6 +6,7 @@ use crate::asked::tpmt_ecc_scheme_asked;
 use crate::asked::tpmt_ha_asked;
 use crate::asked::tpmt_kdf_scheme_asked;
 use crate::asked::tpmt_keyedhash_scheme_asked;
+use crate::asked::tpmt_nv_public2_asked;
 use crate::asked::tpmt_public_asked;
 use crate::asked::tpmt_public_parms_asked;
 use crate::asked::tpmt_rsa_decrypt_asked;
@@ -14,6 +15,10 @@ use crate::asked::tpmt_sensitive_asked;
 use crate::asked::tpmt_sig_scheme_asked;
 use crate::asked::tpmt_signature_asked;
 use crate::asked::tpmt_sym_def_asked;
+use crate::asked::tpmt_tk_auth_asked;
+use crate::asked::tpmt_tk_creation_asked;
+use crate::asked::tpmt_tk_hashcheck_asked;
+use crate::asked::tpmt_tk_verified_asked;
 use crate::case::Case;
 use crate::said::say_refusal;
 use crate::under::tpms_attest_under;
@@ -22,6 +27,7 @@ use crate::under::tpmt_ecc_scheme_under;
 use crate::under::tpmt_ha_under;
 use crate::under::tpmt_kdf_scheme_under;
 use crate::under::tpmt_keyedhash_scheme_under;
+use crate::under::tpmt_nv_public2_under;
 use crate::under::tpmt_public_parms_under;
 use crate::under::tpmt_public_under;
 use crate::under::tpmt_rsa_decrypt_under;
@@ -30,6 +36,20 @@ use crate::under::tpmt_sensitive_under;
 use crate::under::tpmt_sig_scheme_under;
 use crate::under::tpmt_signature_under;
 use crate::under::tpmt_sym_def_under;
+use crate::under::tpmt_tk_auth_under;
+use crate::under::tpmt_tk_creation_under;
+use crate::under::tpmt_tk_hashcheck_under;
+use crate::under::tpmt_tk_verified_under;
+use areas::tpmt::TpmtNvPublic2;
+use areas::tpmt::TpmtNvPublic2Read;
+use areas::tpmt::TpmtTkAuth;
+use areas::tpmt::TpmtTkAuthRead;
+use areas::tpmt::TpmtTkCreation;
+use areas::tpmt::TpmtTkCreationRead;
+use areas::tpmt::TpmtTkHashcheck;
+use areas::tpmt::TpmtTkHashcheckRead;
+use areas::tpmt::TpmtTkVerified;
+use areas::tpmt::TpmtTkVerifiedRead;
 use attest::attestation::TpmsAttest;
 use attest::attestation::TpmsAttestRead;
 use attest::list::TpmlPcrSelection;
@@ -326,5 +346,70 @@ pub fn tpms_capability_data(case: Case, s: &[u8], src: &[u8], out: &mut [u8]) {
             out,
         ),
         TpmsCapabilityDataRead::No(f) => say_refusal(case.kind, f),
+    }
+}
+
+pub fn tpmt_nv_public2(case: Case, s: &[u8], src: &[u8], out: &mut [u8]) {
+    match TpmtNvPublic2::unmarshal(s, case.first) {
+        TpmtNvPublic2Read::Found(x, end) => tpmt_nv_public2_asked(
+            case,
+            tpmt_nv_public2_under(case, x),
+            tail_of(s, end),
+            src,
+            out,
+        ),
+        TpmtNvPublic2Read::No(f) => say_refusal(case.kind, f),
+    }
+}
+
+pub fn tpmt_tk_creation(case: Case, s: &[u8], src: &[u8], out: &mut [u8]) {
+    match TpmtTkCreation::unmarshal(s, case.first) {
+        TpmtTkCreationRead::Found(x, end) => tpmt_tk_creation_asked(
+            case,
+            tpmt_tk_creation_under(case, x),
+            tail_of(s, end),
+            src,
+            out,
+        ),
+        TpmtTkCreationRead::No(f) => say_refusal(case.kind, f),
+    }
+}
+
+pub fn tpmt_tk_verified(case: Case, s: &[u8], src: &[u8], out: &mut [u8]) {
+    match TpmtTkVerified::unmarshal(s, case.first) {
+        TpmtTkVerifiedRead::Found(x, end) => tpmt_tk_verified_asked(
+            case,
+            tpmt_tk_verified_under(case, x),
+            tail_of(s, end),
+            src,
+            out,
+        ),
+        TpmtTkVerifiedRead::No(f) => say_refusal(case.kind, f),
+    }
+}
+
+pub fn tpmt_tk_hashcheck(case: Case, s: &[u8], src: &[u8], out: &mut [u8]) {
+    match TpmtTkHashcheck::unmarshal(s, case.first) {
+        TpmtTkHashcheckRead::Found(x, end) => tpmt_tk_hashcheck_asked(
+            case,
+            tpmt_tk_hashcheck_under(case, x),
+            tail_of(s, end),
+            src,
+            out,
+        ),
+        TpmtTkHashcheckRead::No(f) => say_refusal(case.kind, f),
+    }
+}
+
+pub fn tpmt_tk_auth(case: Case, s: &[u8], src: &[u8], out: &mut [u8]) {
+    match TpmtTkAuth::unmarshal(s, case.first) {
+        TpmtTkAuthRead::Found(x, end) => tpmt_tk_auth_asked(
+            case,
+            tpmt_tk_auth_under(case, x),
+            tail_of(s, end),
+            src,
+            out,
+        ),
+        TpmtTkAuthRead::No(f) => say_refusal(case.kind, f),
     }
 }

@@ -12,6 +12,7 @@ use crate::case::Case;
 use crate::inside::other_auth;
 use crate::inside::other_list;
 use crate::inside::other_magic;
+use crate::inside::other_policy;
 use crate::inside::parms;
 use crate::inside::say_no_such_case;
 use crate::inside::signature;
@@ -22,6 +23,7 @@ use crate::kinds::tpmt_ecc_scheme;
 use crate::kinds::tpmt_ha;
 use crate::kinds::tpmt_kdf_scheme;
 use crate::kinds::tpmt_keyedhash_scheme;
+use crate::kinds::tpmt_nv_public2;
 use crate::kinds::tpmt_public;
 use crate::kinds::tpmt_public_parms;
 use crate::kinds::tpmt_rsa_decrypt;
@@ -30,6 +32,10 @@ use crate::kinds::tpmt_sensitive;
 use crate::kinds::tpmt_sig_scheme;
 use crate::kinds::tpmt_signature;
 use crate::kinds::tpmt_sym_def;
+use crate::kinds::tpmt_tk_auth;
+use crate::kinds::tpmt_tk_creation;
+use crate::kinds::tpmt_tk_hashcheck;
+use crate::kinds::tpmt_tk_verified;
 use crate::said::UNTOUCHED;
 use codes::uint::Uint16Read;
 use codes::uint::uint16;
@@ -56,6 +62,18 @@ fn answer_scheme(case: Case, s: &[u8], src: &[u8], out: &mut [u8]) {
     }
 }
 
+// A ticket whose tag, hierarchy or digest is replaced.
+fn answer_ticket(case: Case, s: &[u8], src: &[u8], out: &mut [u8]) {
+    let kind = case.kind;
+    match kind {
+        17 | 31 | 36 => tpmt_tk_creation(case, s, src, out),
+        18 | 32 | 37 => tpmt_tk_verified(case, s, src, out),
+        19 | 33 | 38 => tpmt_tk_hashcheck(case, s, src, out),
+        20 | 34 | 39 => tpmt_tk_auth(case, s, src, out),
+        _ => say_no_such_case(kind),
+    }
+}
+
 fn answer_area(case: Case, s: &[u8], src: &[u8], out: &mut [u8]) {
     let kind = case.kind;
     match kind {
@@ -66,7 +84,8 @@ fn answer_area(case: Case, s: &[u8], src: &[u8], out: &mut [u8]) {
         13 => tpms_attest(case, s, src, out),
         14 => tpml_pcr_selection(case, s, src, out),
         15 => tpms_capability_data(case, s, src, out),
-        _ => say_no_such_case(kind),
+        16 => tpmt_nv_public2(case, s, src, out),
+        _ => answer_ticket(case, s, src, out),
     }
 }
 
@@ -78,7 +97,8 @@ fn answer_inside(case: Case, s: &[u8], src: &[u8], out: &mut [u8]) {
         28 => other_magic(case, s, src, out),
         29 => other_auth(case, s, src, out),
         30 => other_list(case, s, src, out),
-        _ => say_no_such_case(kind),
+        35 => other_policy(case, s, src, out),
+        _ => answer_ticket(case, s, src, out),
     }
 }
 

@@ -1,13 +1,20 @@
 // A record under the selector of a case: it is said whether the arm that it holds is the one that this selector chooses, and the record is
-// handed back with the selector in place of its own.
+// handed back with the selector in place of its own. A ticket has no selector: the number stands for its tag, its hierarchy or its digest.
 use crate::case::Case;
 use crate::said::say_match;
+use areas::tpmt::TpmtNvPublic2;
+use areas::tpmt::TpmtTkAuth;
+use areas::tpmt::TpmtTkCreation;
+use areas::tpmt::TpmtTkHashcheck;
+use areas::tpmt::TpmtTkVerified;
 use attest::attestation::TpmsAttest;
 use capabilities::tpms::TpmsCapabilityData;
 use ciphers::tpmt::TpmtHa;
 use ciphers::tpmt::TpmtSymDef;
 use codes::TpmAlgId;
 use codes::TpmCap;
+use codes::TpmHt;
+use codes::TpmRh;
 use codes::TpmSt;
 use keys::tpmt::TpmtPublic;
 use keys::tpmu::TpmuPublicId;
@@ -20,6 +27,12 @@ use schemes::tpmt::TpmtRsaScheme;
 use schemes::tpmt::TpmtSigScheme;
 use sensitive::tpmt::TpmtSensitive;
 use signatures::tpmt::TpmtSignature;
+use wire::span::Span;
+
+// The number of a case with its upper half.
+fn four_bytes(case: Case) -> u32 {
+    (case.upper as u32) << 16 | case.selector as u32
+}
 
 pub fn tpmt_ha_under(case: Case, x: TpmtHa) -> TpmtHa {
     let tag = TpmAlgId(case.selector);
@@ -151,10 +164,87 @@ pub fn tpms_attest_under(case: Case, x: TpmsAttest) -> TpmsAttest {
 }
 
 pub fn tpms_capability_data_under(case: Case, x: TpmsCapabilityData) -> TpmsCapabilityData {
-    let tag = TpmCap((case.upper as u32) << 16 | case.selector as u32);
+    let tag = TpmCap(four_bytes(case));
     let held = x.data;
     say_match(held.matches_tag(tag));
     let mut y = x;
     y.capability = tag;
     y
+}
+
+pub fn tpmt_nv_public2_under(case: Case, x: TpmtNvPublic2) -> TpmtNvPublic2 {
+    let tag = TpmHt((case.selector % 256) as u8);
+    let held = x.public_area;
+    say_match(held.matches_tag(tag));
+    let mut y = x;
+    y.handle_type = tag;
+    y
+}
+
+// The tag of a ticket; in a case of that kind the number of the selector.
+fn tag_under(case: Case, kind: u8, held: TpmSt) -> TpmSt {
+    if case.kind == kind {
+        return TpmSt(case.selector);
+    }
+    held
+}
+
+// Its hierarchy, of four bytes.
+fn hierarchy_under(case: Case, kind: u8, held: TpmRh) -> TpmRh {
+    if case.kind == kind {
+        return TpmRh(four_bytes(case));
+    }
+    held
+}
+
+// Its digest: in a case of that kind a span from the source's start, as long as the selector says.
+fn digest_under(case: Case, kind: u8, held: Span) -> Span {
+    if case.kind == kind {
+        return Span::new(0, case.selector as usize);
+    }
+    held
+}
+
+pub fn tpmt_tk_creation_under(case: Case, x: TpmtTkCreation) -> TpmtTkCreation {
+    let tag = tag_under(case, 17, x.tag);
+    let hierarchy = hierarchy_under(case, 31, x.hierarchy);
+    let digest = digest_under(case, 36, x.digest);
+    TpmtTkCreation {
+        tag,
+        hierarchy,
+        digest,
+    }
+}
+
+pub fn tpmt_tk_verified_under(case: Case, x: TpmtTkVerified) -> TpmtTkVerified {
+    let tag = tag_under(case, 18, x.tag);
+    let hierarchy = hierarchy_under(case, 32, x.hierarchy);
+    let digest = digest_under(case, 37, x.digest);
+    TpmtTkVerified {
+        tag,
+        hierarchy,
+        digest,
+    }
+}
+
+pub fn tpmt_tk_hashcheck_under(case: Case, x: TpmtTkHashcheck) -> TpmtTkHashcheck {
+    let tag = tag_under(case, 19, x.tag);
+    let hierarchy = hierarchy_under(case, 33, x.hierarchy);
+    let digest = digest_under(case, 38, x.digest);
+    TpmtTkHashcheck {
+        tag,
+        hierarchy,
+        digest,
+    }
+}
+
+pub fn tpmt_tk_auth_under(case: Case, x: TpmtTkAuth) -> TpmtTkAuth {
+    let tag = tag_under(case, 20, x.tag);
+    let hierarchy = hierarchy_under(case, 34, x.hierarchy);
+    let digest = digest_under(case, 39, x.digest);
+    TpmtTkAuth {
+        tag,
+        hierarchy,
+        digest,
+    }
 }

@@ -14,12 +14,16 @@ use Rattle.codes.specs.declared.TpmAlgId.{TpmAlgId}
 use Rattle.codes.specs.declared.TpmEccCurve.{TpmEccCurve}
 use Rattle.codes.specs.declared.TpmSt.{TpmSt}
 use Rattle.codes.specs.declared.TpmCap.{TpmCap}
+use Rattle.codes.specs.declared.TpmHt.{TpmHt}
+use Rattle.codes.specs.declared.TpmRh.{TpmRh}
 use Rattle.codes.specs.declared.TpmAlgIdRead.{TpmAlgIdRead}
 use Rattle.codes.specs.declared.TpmEccCurveRead.{TpmEccCurveRead}
 use Rattle.codes.specs.declared.TpmStRead.{TpmStRead}
 use Rattle.codes.specs.declared.TpmCapRead.{TpmCapRead}
+use Rattle.codes.specs.declared.TpmHtRead.{TpmHtRead}
+use Rattle.codes.specs.declared.TpmRhRead.{TpmRhRead}
 use Rattle.codes.specs.declared.DigestLen.{DigestLen}
-use Rattle.codes.specs.Answers.{uint8Answer, uint16Answer, uint32Answer, tpmAlgIdAnswer, tpmEccCurveAnswer, tpmStAnswer, tpmCapAnswer, digestChoice}
+use Rattle.codes.specs.Answers.{uint8Answer, uint16Answer, uint32Answer, tpmAlgIdAnswer, tpmEccCurveAnswer, tpmStAnswer, tpmCapAnswer, tpmHtAnswer, tpmRhAnswer, digestChoice}
 use Rattle.codes.specs.Codes.{null}
 use Rattle.codes.specs.Digests.{digestSize}
 use Rattle.codes.proofs.Digests.{digest-sized, digest-not-empty}
@@ -35,6 +39,12 @@ tpm-st-once = fields (λ t. t .0) (λ n. record { 0 = n }) (λ t. refl) number-o
 
 pub tpm-cap-once : Once (λ (c : TpmCap). num (c .0) ∷ [])
 tpm-cap-once = fields (λ c. c .0) (λ n. record { 0 = n }) (λ c. refl) number-once
+
+pub tpm-ht-once : Once (λ (t : TpmHt). num (t .0) ∷ [])
+tpm-ht-once = fields (λ t. t .0) (λ n. record { 0 = n }) (λ t. refl) number-once
+
+pub tpm-rh-once : Once (λ (h : TpmRh). num (h .0) ∷ [])
+tpm-rh-once = fields (λ h. h .0) (λ n. record { 0 = n }) (λ h. refl) number-once
 
 pub uint8-answer-once : Injective uint8Answer
 uint8-answer-once = answers number-once Uint8Read.Found Uint8Read.No uint8Answer (λ back. elim [ Uint8Read.Found n e ↦ back n e | Uint8Read.No f ↦ refl ])
@@ -56,6 +66,12 @@ tpm-st-answer-once = answers tpm-st-once TpmStRead.Found TpmStRead.No tpmStAnswe
 
 pub tpm-cap-answer-once : Injective tpmCapAnswer
 tpm-cap-answer-once = answers tpm-cap-once TpmCapRead.Found TpmCapRead.No tpmCapAnswer (λ back. elim [ TpmCapRead.Found c e ↦ back c e | TpmCapRead.No f ↦ refl ])
+
+pub tpm-ht-answer-once : Injective tpmHtAnswer
+tpm-ht-answer-once = answers tpm-ht-once TpmHtRead.Found TpmHtRead.No tpmHtAnswer (λ back. elim [ TpmHtRead.Found t e ↦ back t e | TpmHtRead.No f ↦ refl ])
+
+pub tpm-rh-answer-once : Injective tpmRhAnswer
+tpm-rh-answer-once = answers tpm-rh-once TpmRhRead.Found TpmRhRead.No tpmRhAnswer (λ back. elim [ TpmRhRead.Found h e ↦ back h e | TpmRhRead.No f ↦ refl ])
 
 pub digest-choice-once : Injective digestChoice
 digest-choice-once = undone digestChoice

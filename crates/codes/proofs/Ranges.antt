@@ -1,4 +1,4 @@
--- The lists of codes: how many there are, and membership by ranges. Assumes nothing.
+-- The lists of codes: how many there are, and membership by ranges, or by one number after the other. Assumes nothing.
 use Prim.Native.Nat.{ℕ, zero, suc, _+_, _-_, _≤_, _<_}
 use native.Mathlib.Omega.{arith}
 use mathlib.Core.Path.{_≡_, refl, sym, ap, _∙_}
@@ -7,7 +7,7 @@ use mathlib.Core.List.{List, [], _∷_, _++_}
 use lib.ListN.{length}
 use lib.Dec.{eqb, leb}
 use borrow.Author.Tests.{le-leb, leb-true, leb-false, eqb-true, eqb-false}
-use Rattle.codes.specs.Codes.{Range, row, numbers, member, within, curveRanges, attestationRanges, capRanges, algorithms, curves, attestations, caps, isCurve, isAttestation, isCap}
+use Rattle.codes.specs.Codes.{Range, row, numbers, member, within, curveRanges, attestationRanges, capRanges, algorithms, curves, attestations, caps, handleTypes, hierarchies, isCurve, isAttestation, isCap}
 
 -- ---- how many
 
@@ -26,6 +26,14 @@ attestations-8 = refl
 pub caps-11 : length caps ≡ 11
 unfolding caps
 caps-11 = refl
+
+pub handle-types-3 : length handleTypes ≡ 3
+unfolding handleTypes
+handle-types-3 = refl
+
+pub hierarchies-4 : length hierarchies ≡ 4
+unfolding hierarchies
+hierarchies-4 = refl
 
 -- ---- membership by ranges
 
@@ -105,3 +113,18 @@ attestation-tests n pa pb = rw (pa, pb) (or-member attestationRanges n false (om
 pub cap-test : (n : ℕ) → leb n 0x0A ≡ isCap n
 unfolding isCap caps
 cap-test n = sym (ap (λ b. b && leb n 0x0A) (le-leb 0 n (omega arith))) ∙ or-member capRanges n false (omega arith, tt)
+
+-- ---- membership by one number after the other
+
+-- tests of numbers in a row
+abbrev pub orEqual : Bool → List ℕ → ℕ → Bool
+orEqual b [] n = b
+orEqual b (x ∷ xs) n = orEqual (b || eqb n x) xs n
+
+or-equal : (b : Bool) (xs : List ℕ) (n : ℕ) → orEqual b xs n ≡ (b || member xs n)
+or-equal b [] n = or-none b
+or-equal b (x ∷ xs) n = or-equal (b || eqb n x) xs n ∙ or-assoc b (eqb n x) (member xs n)
+
+-- are the test of their list: so the code's tests of a handle type, of a hierarchy and of a tag are their lists
+pub equal-tests : (x : ℕ) (xs : List ℕ) (n : ℕ) → orEqual (eqb n x) xs n ≡ member (x ∷ xs) n
+equal-tests x xs n = or-equal (eqb n x) xs n

@@ -9,6 +9,8 @@ use Rattle.codes.specs.declared.TpmAlgIdRead.{TpmAlgIdRead}
 use Rattle.codes.specs.declared.TpmEccCurveRead.{TpmEccCurveRead}
 use Rattle.codes.specs.declared.TpmStRead.{TpmStRead}
 use Rattle.codes.specs.declared.TpmCapRead.{TpmCapRead}
+use Rattle.codes.specs.declared.TpmHtRead.{TpmHtRead}
+use Rattle.codes.specs.declared.TpmRhRead.{TpmRhRead}
 use Rattle.codes.specs.declared.DigestLen.{DigestLen}
 use Rattle.codes.specs.Codes.{null}
 use Rattle.codes.specs.Digests.{digestOf}
@@ -42,6 +44,14 @@ tpmStAnswer (TpmStRead.No f) = refused f
 abbrev pub tpmCapAnswer : TpmCapRead → Ans Parsed
 tpmCapAnswer (TpmCapRead.Found c e) = parsed (num (c .0) ∷ []) e
 tpmCapAnswer (TpmCapRead.No f) = refused f
+
+abbrev pub tpmHtAnswer : TpmHtRead → Ans Parsed
+tpmHtAnswer (TpmHtRead.Found t e) = parsed (num (t .0) ∷ []) e
+tpmHtAnswer (TpmHtRead.No f) = refused f
+
+abbrev pub tpmRhAnswer : TpmRhRead → Ans Parsed
+tpmRhAnswer (TpmRhRead.Found h e) = parsed (num (h .0) ∷ []) e
+tpmRhAnswer (TpmRhRead.No f) = refused f
 
 -- a digest's length as the arm of its union; the empty digest is Null's arm
 abbrev pub digestChoice : DigestLen → Choice

@@ -4,6 +4,48 @@ use mathlib.Core.Bool.{Bool, false, _||_, _&&_}
 use mathlib.Core.List.{List, [], _∷_, _++_}
 use lib.Dec.{eqb, leb}
 use Rattle.wire.specs.Layout.{Rule, listed, fixed}
+use Rattle.codes.specs.declared.Ticket.{Ticket}
+use Rattle.codes.specs.declared.Ticket.the-variants.{Creation, Verified, Hashcheck, Auth}
+
+-- ---- the names of handle types, hierarchies and tags
+
+abbrev pub htNvIndex : ℕ
+htNvIndex = 0x01
+
+abbrev pub htExternalNv : ℕ
+htExternalNv = 0x11
+
+abbrev pub htPermanentNv : ℕ
+htPermanentNv = 0x12
+
+abbrev pub rhOwner : ℕ
+rhOwner = 0x40000001
+
+abbrev pub rhNull : ℕ
+rhNull = 0x40000007
+
+abbrev pub rhEndorsement : ℕ
+rhEndorsement = 0x4000000B
+
+abbrev pub rhPlatform : ℕ
+rhPlatform = 0x4000000C
+
+abbrev pub stCreation : ℕ
+stCreation = 0x8021
+
+abbrev pub stVerified : ℕ
+stVerified = 0x8022
+
+abbrev pub stAuthSecret : ℕ
+stAuthSecret = 0x8023
+
+abbrev pub stHashcheck : ℕ
+stHashcheck = 0x8024
+
+abbrev pub stAuthSigned : ℕ
+stAuthSigned = 0x8025
+
+-- ---- the lists
 
 -- the numbers from lo to hi
 pub record Range : Type 0 where
@@ -61,6 +103,14 @@ capRanges = range 0x00 0x0A ∷ []
 unfoldable pub caps : List ℕ
 caps = numbers capRanges
 
+-- the 3 handle types of NV areas
+unfoldable pub handleTypes : List ℕ
+handleTypes = htNvIndex ∷ htExternalNv ∷ htPermanentNv ∷ []
+
+-- the 4 hierarchies
+unfoldable pub hierarchies : List ℕ
+hierarchies = rhOwner ∷ rhNull ∷ rhEndorsement ∷ rhPlatform ∷ []
+
 -- what a field of each takes
 unfoldable pub isAlgorithm : ℕ → Bool
 isAlgorithm n = member algorithms n
@@ -74,6 +124,12 @@ isAttestation n = member attestations n
 unfoldable pub isCap : ℕ → Bool
 isCap n = member caps n
 
+unfoldable pub isHandleType : ℕ → Bool
+isHandleType n = member handleTypes n
+
+unfoldable pub isHierarchy : ℕ → Bool
+isHierarchy n = member hierarchies n
+
 abbrev pub alg : Rule
 alg = listed (λ n. isAlgorithm n)
 
@@ -85,6 +141,12 @@ attestation = listed (λ n. isAttestation n)
 
 abbrev pub cap : Rule
 cap = listed (λ n. isCap n)
+
+abbrev pub handleType : Rule
+handleType = listed (λ n. isHandleType n)
+
+abbrev pub hierarchy : Rule
+hierarchy = listed (λ n. isHierarchy n)
 
 -- no, 0, or yes, 1
 abbrev pub isYesNo : ℕ → Bool
@@ -100,7 +162,17 @@ isMagic n = eqb n 0xFF544347
 abbrev pub magic : Rule
 magic = fixed (λ n. isMagic n)
 
--- ---- the registry's names
+-- the tags of each ticket: fixed values, on no list of codes
+abbrev pub ticketTags : Ticket → List ℕ
+ticketTags Creation = stCreation ∷ []
+ticketTags Verified = stVerified ∷ []
+ticketTags Hashcheck = stHashcheck ∷ []
+ticketTags Auth = stAuthSecret ∷ stAuthSigned ∷ []
+
+abbrev pub ticketTag : Ticket → Rule
+ticketTag t = fixed (λ n. member (ticketTags t) n)
+
+-- ---- the names of algorithms, attestation types and capabilities
 
 abbrev pub rsa : ℕ
 rsa = 0x01

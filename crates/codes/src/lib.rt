@@ -1,20 +1,24 @@
-// Algorithms, curves and attestation types, codes of two bytes, and capabilities, codes of four: each is a type, so that none is taken for another.
+// Codes: algorithms, curves and attestation types, of two bytes, capabilities and hierarchies, of four, and handle types, of one; and the tags of tickets. Each
+// sort of code is a type, so that none is taken for another; a tag has the type of the attestation types, as in Part 2.
 pub mod registry;
 pub mod uint;
 
+use crate::uint::Uint8Read;
 use crate::uint::Uint16Read;
 use crate::uint::Uint32Read;
+use crate::uint::uint8;
 use crate::uint::uint16;
 use crate::uint::uint32;
 use faults::Refusal;
 use wire::widen::wide;
+use wire::widen::wide_byte;
 use wire::widen::wider;
 ghost use mathlib.Core.Path.{_≡_};
 ghost use Rattle.wire.specs.Layout.{one};
 ghost use Rattle.wire.specs.Reading.{read};
-ghost use Rattle.codes.specs.Codes.{attestations, caps, namedAlgorithms, isAlgorithm, isCurve, isAttestation, isCap, within, alg, curve, attestation, cap};
+ghost use Rattle.codes.specs.Codes.{attestations, caps, handleTypes, hierarchies, namedAlgorithms, isAlgorithm, isCurve, isAttestation, isCap, isHandleType, isHierarchy, member, within, alg, curve, attestation, cap, handleType, hierarchy, ticketTags, ticketTag};
 ghost use Rattle.codes.specs.Digests.{tpmuHaArm};
-ghost use Rattle.codes.specs.Answers.{tpmAlgIdAnswer, tpmEccCurveAnswer, tpmStAnswer, tpmCapAnswer, digestChoice};
+ghost use Rattle.codes.specs.Answers.{tpmAlgIdAnswer, tpmEccCurveAnswer, tpmStAnswer, tpmCapAnswer, tpmHtAnswer, tpmRhAnswer, digestChoice};
 
 pub struct TpmAlgId(pub u16);
 
@@ -23,6 +27,18 @@ pub struct TpmEccCurve(pub u16);
 pub struct TpmSt(pub u16);
 
 pub struct TpmCap(pub u32);
+
+pub struct TpmHt(pub u8);
+
+pub struct TpmRh(pub u32);
+
+// The tickets, by what their tags say.
+pub enum Ticket {
+    Creation,
+    Verified,
+    Hashcheck,
+    Auth,
+}
 
 pub enum TpmAlgIdRead {
     Found(TpmAlgId, usize),
@@ -41,6 +57,16 @@ pub enum TpmStRead {
 
 pub enum TpmCapRead {
     Found(TpmCap, usize),
+    No(Refusal),
+}
+
+pub enum TpmHtRead {
+    Found(TpmHt, usize),
+    No(Refusal),
+}
+
+pub enum TpmRhRead {
+    Found(TpmRh, usize),
     No(Refusal),
 }
 
@@ -272,7 +298,17 @@ impl TpmSt {
 
     pub const AttestNvDigest: TpmSt = TpmSt(registry::ATTEST_NV_DIGEST);
 
-    // Their codes, rising.
+    pub const Creation: TpmSt = TpmSt(registry::ST_CREATION);
+
+    pub const Verified: TpmSt = TpmSt(registry::ST_VERIFIED);
+
+    pub const AuthSecret: TpmSt = TpmSt(registry::ST_AUTH_SECRET);
+
+    pub const Hashcheck: TpmSt = TpmSt(registry::ST_HASHCHECK);
+
+    pub const AuthSigned: TpmSt = TpmSt(registry::ST_AUTH_SIGNED);
+
+    // The codes of the attestation types, rising; a ticket's tag is no code.
     pub fn named() -> [u16; 8]
         ensures { λ r. ⌜ r ≡ attestations ⌝ }
     {
@@ -307,6 +343,36 @@ impl TpmSt {
                     TpmStRead::Found(t, e)
                 } else {
                     TpmStRead::No(Refusal::unknown_code(at, wide(n)))
+                }
+            }
+            Uint16Read::No(f) => TpmStRead::No(f),
+        }
+    }
+
+    // Whether it is a tag of that ticket.
+    pub fn is_tag_of(self, ticket: Ticket) -> bool
+        ensures { λ r. ⌜ r ≡ member (ticketTags ticket) (self .0) ⌝ }
+    {
+        let t = self.0;
+        match ticket {
+            Ticket::Creation => t == registry::ST_CREATION,
+            Ticket::Verified => t == registry::ST_VERIFIED,
+            Ticket::Hashcheck => t == registry::ST_HASHCHECK,
+            Ticket::Auth => (t == registry::ST_AUTH_SECRET) | (t == registry::ST_AUTH_SIGNED),
+        }
+    }
+
+    // The tag of a ticket, read: a fixed value, so that another is no unknown code but a bad value.
+    pub fn unmarshal_tag(ticket: Ticket, s: &[u8], at: usize) -> TpmStRead
+        ensures { λ r. ⌜ tpmStAnswer r ≡ read (one 2 (ticketTag ticket)) (now (s .entry)) at ⌝ }
+    {
+        match uint16(s, at) {
+            Uint16Read::Found(n, e) => {
+                let t = TpmSt(n);
+                if t.is_tag_of(ticket) {
+                    TpmStRead::Found(t, e)
+                } else {
+                    TpmStRead::No(Refusal::bad_value(at, wide(n)))
                 }
             }
             Uint16Read::No(f) => TpmStRead::No(f),
@@ -377,6 +443,98 @@ impl TpmCap {
                 }
             }
             Uint32Read::No(f) => TpmCapRead::No(f),
+        }
+    }
+}
+
+impl TpmHt {
+    pub const NvIndex: TpmHt = TpmHt(registry::HT_NV_INDEX);
+
+    pub const ExternalNv: TpmHt = TpmHt(registry::HT_EXTERNAL_NV);
+
+    pub const PermanentNv: TpmHt = TpmHt(registry::HT_PERMANENT_NV);
+
+    // Their codes, rising.
+    pub fn named() -> [u8; 3]
+        ensures { λ r. ⌜ r ≡ handleTypes ⌝ }
+    {
+        [TpmHt::NvIndex.0, TpmHt::ExternalNv.0, TpmHt::PermanentNv.0]
+    }
+
+    // Whether the code is one of the 3 handle types of NV areas.
+    pub fn is_listed(self) -> bool
+        ensures { λ r. ⌜ r ≡ isHandleType (self .0) ⌝ }
+    {
+        let n = self.0;
+        (n == registry::HT_NV_INDEX)
+            | (n == registry::HT_EXTERNAL_NV)
+            | (n == registry::HT_PERMANENT_NV)
+    }
+
+    // A handle type's code, read.
+    pub fn unmarshal(s: &[u8], at: usize) -> TpmHtRead
+        ensures { λ r. ⌜ tpmHtAnswer r ≡ read (one 1 handleType) (now (s .entry)) at ⌝ }
+    {
+        match uint8(s, at) {
+            Uint8Read::Found(n, e) => {
+                let t = TpmHt(n);
+                if t.is_listed() {
+                    TpmHtRead::Found(t, e)
+                } else {
+                    TpmHtRead::No(Refusal::unknown_code(at, wide_byte(n)))
+                }
+            }
+            Uint8Read::No(f) => TpmHtRead::No(f),
+        }
+    }
+}
+
+impl TpmRh {
+    pub const Owner: TpmRh = TpmRh(registry::RH_OWNER);
+
+    pub const Null: TpmRh = TpmRh(registry::RH_NULL);
+
+    pub const Endorsement: TpmRh = TpmRh(registry::RH_ENDORSEMENT);
+
+    pub const Platform: TpmRh = TpmRh(registry::RH_PLATFORM);
+
+    // Their codes, rising.
+    pub fn named() -> [u32; 4]
+        ensures { λ r. ⌜ r ≡ hierarchies ⌝ }
+    {
+        [
+            TpmRh::Owner.0,
+            TpmRh::Null.0,
+            TpmRh::Endorsement.0,
+            TpmRh::Platform.0,
+        ]
+    }
+
+    // Whether the code is one of the 4 hierarchies.
+    pub fn is_listed(self) -> bool
+        ensures { λ r. ⌜ r ≡ isHierarchy (self .0) ⌝ }
+    {
+        let n = self.0;
+        (n == registry::RH_OWNER)
+            | (n == registry::RH_NULL)
+            | (n == registry::RH_ENDORSEMENT)
+            | (n == registry::RH_PLATFORM)
+    }
+
+    // A hierarchy's code, read.
+    pub fn unmarshal(s: &[u8], at: usize) -> TpmRhRead
+        ensures { λ r. ⌜ tpmRhAnswer r ≡ read (one 4 hierarchy) (now (s .entry)) at ⌝ }
+    {
+        match uint32(s, at) {
+            Uint32Read::Found(n, e) => {
+                let h = TpmRh(n);
+                if h.is_listed() {
+                    TpmRhRead::Found(h, e)
+                } else {
+                    TpmRhRead::No(Refusal::unknown_code(at, wider(n)))
+                }
+            }
+            Uint32Read::No(f) => TpmRhRead::No(f),
         }
     }
 }

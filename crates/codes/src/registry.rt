@@ -106,3 +106,27 @@ pub const CAP_ECC_CURVES: u32 = 0x00000008;
 pub const CAP_AUTH_POLICIES: u32 = 0x00000009;
 
 pub const CAP_ACT: u32 = 0x0000000A;
+
+pub const HT_NV_INDEX: u8 = 0x01;
+
+pub const HT_EXTERNAL_NV: u8 = 0x11;
+
+pub const HT_PERMANENT_NV: u8 = 0x12;
+
+pub const RH_OWNER: u32 = 0x40000001;
+
+pub const RH_NULL: u32 = 0x40000007;
+
+pub const RH_ENDORSEMENT: u32 = 0x4000000B;
+
+pub const RH_PLATFORM: u32 = 0x4000000C;
+
+pub const ST_CREATION: u16 = 0x8021;
+
+pub const ST_VERIFIED: u16 = 0x8022;
+
+pub const ST_AUTH_SECRET: u16 = 0x8023;
+
+pub const ST_HASHCHECK: u16 = 0x8024;
+
+pub const ST_AUTH_SIGNED: u16 = 0x8025;

@@ -1,4 +1,4 @@
-// Numbers of two and four bytes at the width that a record keeps, yes/no bytes and the magic.
+// Numbers of one, two and four bytes at the width that a record keeps, yes/no bytes and the magic.
 use faults::Refusal;
 use wire::read::NumberRead;
 use wire::read::number;
@@ -22,6 +22,15 @@ pub enum Uint16Read {
 pub enum Uint32Read {
     Found(u32, usize),
     No(Refusal),
+}
+
+pub fn uint8(s: &[u8], at: usize) -> Uint8Read
+    ensures { λ r. ⌜ uint8Answer r ≡ read (one 1 free) (now (s .entry)) at ⌝ }
+{
+    match number(s, at, Width::One) {
+        NumberRead::Found(n, e) => Uint8Read::Found(n as u8, e),
+        NumberRead::No(f) => Uint8Read::No(f),
+    }
 }
 
 pub fn uint16(s: &[u8], at: usize) -> Uint16Read

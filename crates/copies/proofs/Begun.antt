@@ -11,10 +11,10 @@ use Rattle.wire.specs.Grammar.{Token, Spells}
 use Rattle.wire.proofs.Stand.{stands-left}
 use Rattle.wire.proofs.Sound.{read-sound}
 use Rattle.format.specs.Kinds.{layoutOf}
-use Rattle.format.proofs.FirstByte.{first-byte-is-no-kind}
+use Rattle.format.proofs.FirstByte.{first-byte}
 
 pub kind-has-bytes : (k : ℕ) {ts : List Token} {bs : List ℕ} → Spells (layoutOf k) ts bs → 0 < length bs
-kind-has-bytes k d = let (b, rest, e, which, none) = first-byte-is-no-kind k d in omega (arith, ap length e)
+kind-has-bytes k d = let (b, rest, e, which) = first-byte k d in omega (arith, ap length e)
 
 -- so it was read from a place in the input to a place behind that one, and not past the end
 pub read-lies-in : (k : ℕ) (src : List ℕ) (at : ℕ) {ps : List Part} {e : ℕ} → Bytes src → read (layoutOf k) src at ≡ parsed ps e → (at < e) × (e ≤ length src)

@@ -1,4 +1,14 @@
 // A record of any kind by the kind's number, walked over: listed, measured, or copied.
+use areas::tpmt::TpmtNvPublic2;
+use areas::tpmt::TpmtNvPublic2Read;
+use areas::tpmt::TpmtTkAuth;
+use areas::tpmt::TpmtTkAuthRead;
+use areas::tpmt::TpmtTkCreation;
+use areas::tpmt::TpmtTkCreationRead;
+use areas::tpmt::TpmtTkHashcheck;
+use areas::tpmt::TpmtTkHashcheckRead;
+use areas::tpmt::TpmtTkVerified;
+use areas::tpmt::TpmtTkVerifiedRead;
 use attest::attestation::TpmsAttest;
 use attest::attestation::TpmsAttestRead;
 use attest::list::TpmlPcrSelection;
@@ -37,7 +47,7 @@ use steps::walk::refusing;
 use wire::measure::Measure;
 use wire::widen::wide_byte;
 ghost use Rattle.wire.specs.Reading.{read};
-ghost use Rattle.format.specs.Kinds.{tpmtHa, tpmtSymDef, tpmtKdfScheme, tpmtKeyedhashScheme, tpmtSigScheme, tpmtAsymScheme, tpmtPublicParms, tpmtSignature, tpmtPublic, tpmtSensitive, tpmsAttest, tpmlPcrSelection, tpmsCapabilityData, layoutOf, readKind};
+ghost use Rattle.format.specs.Kinds.{tpmtHa, tpmtSymDef, tpmtKdfScheme, tpmtKeyedhashScheme, tpmtSigScheme, tpmtAsymScheme, tpmtPublicParms, tpmtSignature, tpmtPublic, tpmtSensitive, tpmsAttest, tpmlPcrSelection, tpmsCapabilityData, tpmtNvPublic2, tpmtTkCreation, tpmtTkVerified, tpmtTkHashcheck, tpmtTkAuth, layoutOf, readKind};
 ghost use Rattle.steps.specs.Walks.{here};
 ghost use Rattle.copies.specs.Walked.{WalkOf};
 ghost use Rattle.copies.specs.Copied.{MeasuresKind, Copies};
@@ -177,6 +187,51 @@ fn tpms_capability_data_walk(s: &[u8], w: Walk, out: &mut [u8]) -> Walk
     }
 }
 
+fn tpmt_nv_public2_walk(s: &[u8], w: Walk, out: &mut [u8]) -> Walk
+    ensures { λ r. ⌜ WalkOf tpmtNvPublic2 (now (s .entry)) (read tpmtNvPublic2 (now (s .entry)) 0) (here w (now (out .entry))) (here r (now (out .exit))) ⌝ }
+{
+    match TpmtNvPublic2::unmarshal(s, 0) {
+        TpmtNvPublic2Read::Found(x, _) => x.walk(w, s, out),
+        TpmtNvPublic2Read::No(f) => refusing(f),
+    }
+}
+
+fn tpmt_tk_creation_walk(s: &[u8], w: Walk, out: &mut [u8]) -> Walk
+    ensures { λ r. ⌜ WalkOf tpmtTkCreation (now (s .entry)) (read tpmtTkCreation (now (s .entry)) 0) (here w (now (out .entry))) (here r (now (out .exit))) ⌝ }
+{
+    match TpmtTkCreation::unmarshal(s, 0) {
+        TpmtTkCreationRead::Found(x, _) => x.walk(w, s, out),
+        TpmtTkCreationRead::No(f) => refusing(f),
+    }
+}
+
+fn tpmt_tk_verified_walk(s: &[u8], w: Walk, out: &mut [u8]) -> Walk
+    ensures { λ r. ⌜ WalkOf tpmtTkVerified (now (s .entry)) (read tpmtTkVerified (now (s .entry)) 0) (here w (now (out .entry))) (here r (now (out .exit))) ⌝ }
+{
+    match TpmtTkVerified::unmarshal(s, 0) {
+        TpmtTkVerifiedRead::Found(x, _) => x.walk(w, s, out),
+        TpmtTkVerifiedRead::No(f) => refusing(f),
+    }
+}
+
+fn tpmt_tk_hashcheck_walk(s: &[u8], w: Walk, out: &mut [u8]) -> Walk
+    ensures { λ r. ⌜ WalkOf tpmtTkHashcheck (now (s .entry)) (read tpmtTkHashcheck (now (s .entry)) 0) (here w (now (out .entry))) (here r (now (out .exit))) ⌝ }
+{
+    match TpmtTkHashcheck::unmarshal(s, 0) {
+        TpmtTkHashcheckRead::Found(x, _) => x.walk(w, s, out),
+        TpmtTkHashcheckRead::No(f) => refusing(f),
+    }
+}
+
+fn tpmt_tk_auth_walk(s: &[u8], w: Walk, out: &mut [u8]) -> Walk
+    ensures { λ r. ⌜ WalkOf tpmtTkAuth (now (s .entry)) (read tpmtTkAuth (now (s .entry)) 0) (here w (now (out .entry))) (here r (now (out .exit))) ⌝ }
+{
+    match TpmtTkAuth::unmarshal(s, 0) {
+        TpmtTkAuthRead::Found(x, _) => x.walk(w, s, out),
+        TpmtTkAuthRead::No(f) => refusing(f),
+    }
+}
+
 // The record of that kind that s starts with, walked over; where there is none, the walk is refused. A number that is no kind is refused
 // first.
 pub fn walk(kind: u8, s: &[u8], w: Walk, out: &mut [u8]) -> Walk
@@ -198,6 +253,11 @@ pub fn walk(kind: u8, s: &[u8], w: Walk, out: &mut [u8]) -> Walk
         13 => tpms_attest_walk(s, w, out),
         14 => tpml_pcr_selection_walk(s, w, out),
         15 => tpms_capability_data_walk(s, w, out),
+        16 => tpmt_nv_public2_walk(s, w, out),
+        17 => tpmt_tk_creation_walk(s, w, out),
+        18 => tpmt_tk_verified_walk(s, w, out),
+        19 => tpmt_tk_hashcheck_walk(s, w, out),
+        20 => tpmt_tk_auth_walk(s, w, out),
         _ => refusing(Refusal::bad_kind(wide_byte(kind))),
     }
 }

@@ -19,7 +19,7 @@ pub record Met : Type 0 where
   pub size : ℕ
   -- the count that passes its capacity
   pub count : ℕ
-  -- the yes/no byte, or the magic
+  -- the yes/no byte, the magic, or the ticket's tag
   pub found : ℕ
   -- the length of the span
   pub span : ℕ

@@ -103,7 +103,7 @@ impl Refusal {
         Refusal::other(Fault::TooManyItems, place, count)
     }
 
-    // A yes/no byte that is neither, or another magic.
+    // A yes/no byte that is neither, another magic, or another tag.
     pub fn bad_value(place: usize, value: u64) -> Refusal
         ensures { λ r. ⌜ r ≡ badValue place value ⌝ }
     {

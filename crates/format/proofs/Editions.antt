@@ -5,20 +5,20 @@ use native.Mathlib.Omega.{arith}
 use mathlib.Core.Path.{_≡_, refl}
 use mathlib.Core.List.{List, [], _∷_}
 use lib.ListN.{getD}
-use Rattle.wire.specs.Layout.{Layout, stop, noArm, number, free}
+use Rattle.wire.specs.Layout.{Rule, Layout, stop, noArm, number, free}
 use Rattle.wire.specs.Editions.{LaterRule, rule-same, rule-longer, Later, stop-same, arm-new, number-later, buffer-same, counted-same}
 use Rattle.wire.proofs.Order.{later-refl, later-then}
 use Rattle.wire.proofs.Rows.{more-rows, row-later, rows-behind, union-later}
-use Rattle.codes.specs.Codes.{alg, curve, attestation, cap}
+use Rattle.codes.specs.Codes.{alg, curve, attestation, cap, handleType, hierarchy}
 use Rattle.format.specs.declared.list.ListOf.{ListOf}
 use Rattle.format.specs.declared.list.ListOf.the-variants.{AlgProperty, Handle, Cca, Cc, PcrSelection, TaggedTpmProperty, EccCurve, TaggedPolicy, ActData}
-use Rattle.format.specs.Kinds.{tpmuHaTable, tpmuHaArm, tpmuHa, tpmuAsymSchemeArm, tpmuAsymScheme, tpmuSigSchemeArm, tpmuSigScheme, tpmuKeyedhashSchemeArm, tpmuKeyedhashScheme, tpmuKdfSchemeArm, tpmuKdfScheme, tpmuSymKeyBitsArm, tpmuSymKeyBits, tpmuSymModeArm, tpmuSymMode, tpmuPublicParmsArm, tpmuPublicParms, tpmuPublicIdTable, tpmuPublicIdArm, tpmuPublicId, tpmuSensitiveCompositeTable, tpmuSensitiveCompositeArm, tpmuSensitiveComposite, tpmuSignatureArm, tpmuSignature, tpmuAttestArm, tpmuAttest, tpmuCapabilitiesArm, tpmuCapabilities, tpmsSchemeHash, tpmsSchemeEcdaa, tpmsSchemeXor, tpmtHa, tpmtSymDef, tpmtKdfScheme, tpmtKeyedhashScheme, tpmtSigScheme, tpmtAsymScheme, tpmsRsaParms, tpmsEccParms, tpmsSignatureRsa, tpmsSignatureEcc, tpmtPublicParms, tpmtSignature, tpmtPublic, tpmtSensitive, tpmsPcrSelection, tpmsAlgProperty, tpmsTaggedPolicy, itemLayout, tpml, tpmlPcrSelection, tpmsClockInfo, tpmsQuoteInfo, tpmsCommandAuditInfo, tpmsAttest, tpmsCapabilityData, kinds, layoutOf}
+use Rattle.format.specs.Kinds.{tpmuHaTable, tpmuHaArm, tpmuHa, tpmuAsymSchemeArm, tpmuAsymScheme, tpmuSigSchemeArm, tpmuSigScheme, tpmuKeyedhashSchemeArm, tpmuKeyedhashScheme, tpmuKdfSchemeArm, tpmuKdfScheme, tpmuSymKeyBitsArm, tpmuSymKeyBits, tpmuSymModeArm, tpmuSymMode, tpmuPublicParmsArm, tpmuPublicParms, tpmuPublicIdTable, tpmuPublicIdArm, tpmuPublicId, tpmuSensitiveCompositeTable, tpmuSensitiveCompositeArm, tpmuSensitiveComposite, tpmuSignatureArm, tpmuSignature, tpmuAttestArm, tpmuAttest, tpmuCapabilitiesArm, tpmuCapabilities, tpmsSchemeHash, tpmsSchemeEcdaa, tpmsSchemeXor, tpmtHa, tpmtSymDef, tpmtKdfScheme, tpmtKeyedhashScheme, tpmtSigScheme, tpmtAsymScheme, tpmsRsaParms, tpmsEccParms, tpmsSignatureRsa, tpmsSignatureEcc, tpmtPublicParms, tpmtSignature, tpmtPublic, tpmtSensitive, tpmsPcrSelection, tpmsAlgProperty, tpmsTaggedPolicy, itemLayout, tpml, tpmlPcrSelection, tpmsClockInfo, tpmsQuoteInfo, tpmsCommandAuditInfo, tpmsAttest, tpmsCapabilityData, ticket, tpmuNvPublic2Arm, tpmuNvPublic2, tpmsNvPublic, tpmsNvPublicExpAttr, tpmtNvPublic2, ticketBody, tpmtTkCreation, tpmtTkVerified, tpmtTkHashcheck, tpmtTkAuth, kinds, layoutOf}
 use Rattle.format.specs.Editions.{Edition, ours, Extends}
-use Rattle.format.specs.EditionKinds.{algIn, curveIn, attestationIn, capIn, tpmuHaIn, tpmuAsymSchemeIn, tpmuSigSchemeIn, tpmuKeyedhashSchemeIn, tpmuKdfSchemeIn, tpmuSymKeyBitsIn, tpmuSymModeIn, tpmuPublicParmsIn, tpmuPublicIdIn, tpmuSensitiveCompositeIn, tpmuSignatureIn, tpmuAttestIn, tpmuCapabilitiesIn, tpmsSchemeHashIn, tpmsSchemeEcdaaIn, tpmsSchemeXorIn, tpmtHaIn, tpmtSymDefIn, tpmtKdfSchemeIn, tpmtKeyedhashSchemeIn, tpmtSigSchemeIn, tpmtAsymSchemeIn, tpmsRsaParmsIn, tpmsEccParmsIn, tpmsSignatureRsaIn, tpmsSignatureEccIn, tpmtPublicParmsIn, tpmtSignatureIn, tpmtPublicIn, tpmtSensitiveIn, tpmsPcrSelectionIn, tpmsAlgPropertyIn, tpmsTaggedPolicyIn, itemLayoutIn, tpmlIn, tpmlPcrSelectionIn, tpmsQuoteInfoIn, tpmsCommandAuditInfoIn, tpmsAttestIn, tpmsCapabilityDataIn, kindsIn, layoutIn}
+use Rattle.format.specs.EditionKinds.{algIn, curveIn, attestationIn, capIn, handleTypeIn, hierarchyIn, tpmuHaIn, tpmuAsymSchemeIn, tpmuSigSchemeIn, tpmuKeyedhashSchemeIn, tpmuKdfSchemeIn, tpmuSymKeyBitsIn, tpmuSymModeIn, tpmuPublicParmsIn, tpmuPublicIdIn, tpmuSensitiveCompositeIn, tpmuSignatureIn, tpmuAttestIn, tpmuCapabilitiesIn, tpmsSchemeHashIn, tpmsSchemeEcdaaIn, tpmsSchemeXorIn, tpmtHaIn, tpmtSymDefIn, tpmtKdfSchemeIn, tpmtKeyedhashSchemeIn, tpmtSigSchemeIn, tpmtAsymSchemeIn, tpmsRsaParmsIn, tpmsEccParmsIn, tpmsSignatureRsaIn, tpmsSignatureEccIn, tpmtPublicParmsIn, tpmtSignatureIn, tpmtPublicIn, tpmtSensitiveIn, tpmsPcrSelectionIn, tpmsAlgPropertyIn, tpmsTaggedPolicyIn, itemLayoutIn, tpmlIn, tpmlPcrSelectionIn, tpmsQuoteInfoIn, tpmsCommandAuditInfoIn, tpmsAttestIn, tpmsCapabilityDataIn, ticketIn, tpmuNvPublic2In, tpmsNvPublicIn, tpmsNvPublicExpAttrIn, tpmtNvPublic2In, ticketBodyIn, tpmtTkCreationIn, tpmtTkVerifiedIn, tpmtTkHashcheckIn, tpmtTkAuthIn, kindsIn, layoutIn}
 
 -- our own edition makes our kinds
 pub ours-makes-the-kinds : kindsIn ours ≡ kinds
-unfolding kindsIn kinds tpmuHaIn tpmuAsymSchemeIn tpmuSigSchemeIn tpmuKeyedhashSchemeIn tpmuKdfSchemeIn tpmuSymKeyBitsIn tpmuSymModeIn tpmuPublicParmsIn tpmuPublicIdIn tpmuSensitiveCompositeIn tpmuSignatureIn tpmuAttestIn tpmuCapabilitiesIn tpmsSchemeHashIn tpmsSchemeEcdaaIn tpmsSchemeXorIn tpmtHaIn tpmtSymDefIn tpmtKdfSchemeIn tpmtKeyedhashSchemeIn tpmtSigSchemeIn tpmtAsymSchemeIn tpmsRsaParmsIn tpmsEccParmsIn tpmsSignatureRsaIn tpmsSignatureEccIn tpmtPublicParmsIn tpmtSignatureIn tpmtPublicIn tpmtSensitiveIn tpmsPcrSelectionIn tpmsAlgPropertyIn tpmsTaggedPolicyIn tpmlPcrSelectionIn tpmsQuoteInfoIn tpmsCommandAuditInfoIn tpmsAttestIn tpmsCapabilityDataIn tpmuHaArm tpmuHa tpmuAsymSchemeArm tpmuAsymScheme tpmuSigSchemeArm tpmuSigScheme tpmuKeyedhashSchemeArm tpmuKeyedhashScheme tpmuKdfSchemeArm tpmuKdfScheme tpmuSymKeyBitsArm tpmuSymKeyBits tpmuSymModeArm tpmuSymMode tpmuPublicParmsArm tpmuPublicParms tpmuPublicIdArm tpmuPublicId tpmuSensitiveCompositeArm tpmuSensitiveComposite tpmuSignatureArm tpmuSignature tpmuAttestArm tpmuAttest tpmuCapabilitiesArm tpmuCapabilities tpmsSchemeHash tpmsSchemeEcdaa tpmsSchemeXor tpmtHa tpmtSymDef tpmtKdfScheme tpmtKeyedhashScheme tpmtSigScheme tpmtAsymScheme tpmsRsaParms tpmsEccParms tpmsSignatureRsa tpmsSignatureEcc tpmtPublicParms tpmtSignature tpmtPublic tpmtSensitive tpmsPcrSelection tpmsAlgProperty tpmsTaggedPolicy tpmlPcrSelection tpmsQuoteInfo tpmsCommandAuditInfo tpmsAttest tpmsCapabilityData
+unfolding kindsIn kinds tpmuHaIn tpmuAsymSchemeIn tpmuSigSchemeIn tpmuKeyedhashSchemeIn tpmuKdfSchemeIn tpmuSymKeyBitsIn tpmuSymModeIn tpmuPublicParmsIn tpmuPublicIdIn tpmuSensitiveCompositeIn tpmuSignatureIn tpmuAttestIn tpmuCapabilitiesIn tpmsSchemeHashIn tpmsSchemeEcdaaIn tpmsSchemeXorIn tpmtHaIn tpmtSymDefIn tpmtKdfSchemeIn tpmtKeyedhashSchemeIn tpmtSigSchemeIn tpmtAsymSchemeIn tpmsRsaParmsIn tpmsEccParmsIn tpmsSignatureRsaIn tpmsSignatureEccIn tpmtPublicParmsIn tpmtSignatureIn tpmtPublicIn tpmtSensitiveIn tpmsPcrSelectionIn tpmsAlgPropertyIn tpmsTaggedPolicyIn tpmlPcrSelectionIn tpmsQuoteInfoIn tpmsCommandAuditInfoIn tpmsAttestIn tpmsCapabilityDataIn tpmuHaArm tpmuHa tpmuAsymSchemeArm tpmuAsymScheme tpmuSigSchemeArm tpmuSigScheme tpmuKeyedhashSchemeArm tpmuKeyedhashScheme tpmuKdfSchemeArm tpmuKdfScheme tpmuSymKeyBitsArm tpmuSymKeyBits tpmuSymModeArm tpmuSymMode tpmuPublicParmsArm tpmuPublicParms tpmuPublicIdArm tpmuPublicId tpmuSensitiveCompositeArm tpmuSensitiveComposite tpmuSignatureArm tpmuSignature tpmuAttestArm tpmuAttest tpmuCapabilitiesArm tpmuCapabilities tpmsSchemeHash tpmsSchemeEcdaa tpmsSchemeXor tpmtHa tpmtSymDef tpmtKdfScheme tpmtKeyedhashScheme tpmtSigScheme tpmtAsymScheme tpmsRsaParms tpmsEccParms tpmsSignatureRsa tpmsSignatureEcc tpmtPublicParms tpmtSignature tpmtPublic tpmtSensitive tpmsPcrSelection tpmsAlgProperty tpmsTaggedPolicy tpmlPcrSelection tpmsQuoteInfo tpmsCommandAuditInfo tpmsAttest tpmsCapabilityData tpmuNvPublic2In tpmsNvPublicIn tpmsNvPublicExpAttrIn tpmtNvPublic2In ticketBodyIn tpmtTkCreationIn tpmtTkVerifiedIn tpmtTkHashcheckIn tpmtTkAuthIn tpmuNvPublic2Arm tpmuNvPublic2 tpmsNvPublic tpmsNvPublicExpAttr tpmtNvPublic2 ticketBody tpmtTkCreation tpmtTkVerified tpmtTkHashcheck tpmtTkAuth
 ours-makes-the-kinds = refl
 
 -- two lists of layouts, one by one: the second has a later one
@@ -49,6 +49,12 @@ module _ {e : Edition} (x : Extends e) where
 
   caps : LaterRule 4 cap (capIn e)
   caps = rule-longer (omega arith) (x .caps)
+
+  handle-types : LaterRule 1 handleType (handleTypeIn e)
+  handle-types = rule-longer (omega arith) (x .handleTypes)
+
+  hierarchies : LaterRule 4 hierarchy (hierarchyIn e)
+  hierarchies = rule-longer (omega arith) (x .hierarchies)
 
   -- a code of ours, and then what follows it
   by-alg : {k k′ : ℕ → Layout} → ((n : ℕ) → Later (k n) (k′ n)) → Later (number 2 alg k) (number 2 (algIn e) k′)
@@ -179,12 +185,47 @@ module _ {e : Edition} (x : Extends e) where
       number-later caps (λ v a. union-later (row-later (lists AlgProperty) (row-later (lists Handle) (row-later (lists Cca) (row-later (lists Cc) (row-later (lists Cc)
       (row-later pcr-selections (row-later (lists TaggedTpmProperty) (row-later (lists EccCurve) (row-later (lists TaggedPolicy) (row-later (lists ActData) (more-rows (e .tpmuCapabilities)))))))))))) v)
 
+  -- ---- NV areas and tickets
+
+  nv-public : Later tpmsNvPublic (tpmsNvPublicIn e)
+  unfolding tpmsNvPublic tpmsNvPublicIn
+  nv-public = number-later rule-same (λ n a. by-alg (λ m. later-refl _))
+
+  nv-public-exp-attr : Later tpmsNvPublicExpAttr (tpmsNvPublicExpAttrIn e)
+  unfolding tpmsNvPublicExpAttr tpmsNvPublicExpAttrIn
+  nv-public-exp-attr = number-later rule-same (λ n a. by-alg (λ m. later-refl _))
+
+  nv-public2 : Later tpmtNvPublic2 (tpmtNvPublic2In e)
+  unfolding tpmtNvPublic2 tpmtNvPublic2In tpmuNvPublic2 tpmuNvPublic2Arm tpmuNvPublic2In
+  nv-public2 = number-later handle-types (λ v a. union-later (row-later nv-public (row-later nv-public-exp-attr (row-later nv-public (more-rows (e .tpmuNvPublic2))))) v)
+
+  -- a tag's rule is the same in every edition
+  a-ticket : (r : Rule) → Later (ticket r) (ticketIn e r)
+  unfolding ticketBody ticketBodyIn
+  a-ticket r = number-later rule-same (λ n a. number-later hierarchies (λ m b. later-refl _))
+
+  creation : Later tpmtTkCreation (tpmtTkCreationIn e)
+  unfolding tpmtTkCreation tpmtTkCreationIn
+  creation = a-ticket _
+
+  verified : Later tpmtTkVerified (tpmtTkVerifiedIn e)
+  unfolding tpmtTkVerified tpmtTkVerifiedIn
+  verified = a-ticket _
+
+  hashcheck : Later tpmtTkHashcheck (tpmtTkHashcheckIn e)
+  unfolding tpmtTkHashcheck tpmtTkHashcheckIn
+  hashcheck = a-ticket _
+
+  auth : Later tpmtTkAuth (tpmtTkAuthIn e)
+  unfolding tpmtTkAuth tpmtTkAuthIn
+  auth = a-ticket _
+
   -- ---- all kinds
 
   all : AllLater kinds (kindsIn e)
   unfolding kinds kindsIn
   all =
-      (ha, (sym-def, (kdf-scheme, (keyedhash-scheme, (sig-scheme, (asym-scheme, (asym-scheme, (asym-scheme, (public-parms, (signature, (public, (sensitive, (attest, (pcr-selections, (capability-data, tt)))))))))))))))
+      (ha, (sym-def, (kdf-scheme, (keyedhash-scheme, (sig-scheme, (asym-scheme, (asym-scheme, (asym-scheme, (public-parms, (signature, (public, (sensitive, (attest, (pcr-selections, (capability-data, (nv-public2, (creation, (verified, (hashcheck, (auth, tt))))))))))))))))))))
 
   -- of every number the layout in the edition is a later one than ours
   pub extension-is-later : (k : ℕ) → Later (layoutOf k) (layoutIn e k)

@@ -1,21 +1,22 @@
 -- The greatest record of each kind: no record is larger, and one is so large. Assumes nothing.
-use Prim.Native.Nat.{ℕ, zero, suc, _+_, _≤_}
+use Prim.Native.Nat.{ℕ, zero, suc, _+_, _^_, _≤_, _<_}
 use native.Mathlib.Omega.{arith}
-use mathlib.Core.Path.{refl}
+use mathlib.Core.Path.{_≡_, refl}
 use mathlib.Core.Bool.{Bool, true, false, cond}
 use mathlib.Core.List.{List, [], _∷_}
 use lib.Dec.{eqb}
 use lib.ListN.{getD}
 use Rattle.wire.specs.declared.choice.Choice.{Choice}
 use Rattle.wire.specs.declared.choice.Choice.the-variants.{Nothing, The}
-use Rattle.wire.specs.Layout.{Rule, Layout, stop, noArm, number, plain, one, free}
+use Rattle.wire.specs.Layout.{Rule, allows, Layout, stop, noArm, number, plain, one, free}
 use Rattle.wire.specs.Sizes.{AtMost, Reaches, Greatest}
 use Rattle.wire.specs.Unions.{Row, bodyOf, union}
 use Rattle.wire.proofs.Sizes.{stop-most, no-arm-most, arm-most, number-most, plain-most, buffer-most, then-most, most-wider, stop-reaches, arm-reaches, number-reaches, plain-reaches, buffer-reaches, then-reaches}
 use Rattle.format.specs.declared.list.ListOf.{ListOf}
 use Rattle.format.specs.declared.list.ListOf.the-variants.{AlgProperty, Handle, Cca, Cc, PcrSelection, TaggedTpmProperty, EccCurve, TaggedPolicy, ActData}
-use Rattle.codes.specs.Codes.{algorithms, attestations, caps, isAlgorithm, isAttestation, isCap, alg, curve, attestation, cap, yesNo, magic, capAuthPolicies}
-use Rattle.format.specs.Kinds.{tpmuHaTable, tpmuAsymSchemeTable, tpmuSigSchemeTable, tpmuKeyedhashSchemeTable, tpmuKdfSchemeTable, tpmuSymKeyBitsTable, tpmuSymModeTable, tpmuPublicParmsTable, tpmuPublicIdTable, tpmuSensitiveCompositeTable, tpmuSignatureTable, tpmuAttestTable, tpmuCapabilitiesTable, tpmuHaArm, tpmuAsymSchemeArm, tpmuSigSchemeArm, tpmuKeyedhashSchemeArm, tpmuKdfSchemeArm, tpmuSymKeyBitsArm, tpmuSymModeArm, tpmuPublicParmsArm, tpmuPublicIdArm, tpmuSensitiveCompositeArm, tpmuSignatureArm, tpmuAttestArm, tpmuCapabilitiesArm, tpmsSchemeHash, tpmsSchemeEcdaa, tpmsSchemeXor, tpmuHa, tpmuAsymScheme, tpmuSigScheme, tpmuKeyedhashScheme, tpmuKdfScheme, tpmuSymKeyBits, tpmuSymMode, tpmuPublicParms, tpmuPublicId, tpmuSensitiveComposite, tpmuSignature, tpmuAttest, tpmuCapabilities, tpmtHa, tpmtSymDef, tpmtKdfScheme, tpmtKeyedhashScheme, tpmtSigScheme, tpmtAsymScheme, tpmsRsaParms, tpmsEccParms, tpmsEccPoint, tpmsSignatureRsa, tpmsSignatureEcc, tpmtPublicParms, tpmtSignature, tpmtPublic, tpmtSensitive, tpml, tpmlPcrSelection, tpmsClockInfo, tpmsCertifyInfo, tpmsCreationInfo, tpmsQuoteInfo, tpmsCommandAuditInfo, tpmsSessionAuditInfo, tpmsTimeInfo, tpmsTimeAttestInfo, tpmsNvCertifyInfo, tpmsNvDigestCertifyInfo, tpmsAttest, tpmsCapabilityData, kinds, layoutOf}
+use Rattle.codes.specs.declared.Ticket.the-variants.{Creation, Verified, Hashcheck, Auth}
+use Rattle.codes.specs.Codes.{algorithms, attestations, caps, handleTypes, hierarchies, isAlgorithm, isAttestation, isCap, isHandleType, isHierarchy, alg, curve, attestation, cap, handleType, hierarchy, yesNo, magic, ticketTag, capAuthPolicies, htExternalNv, rhOwner, stCreation, stVerified, stHashcheck, stAuthSigned}
+use Rattle.format.specs.Kinds.{tpmuHaTable, tpmuAsymSchemeTable, tpmuSigSchemeTable, tpmuKeyedhashSchemeTable, tpmuKdfSchemeTable, tpmuSymKeyBitsTable, tpmuSymModeTable, tpmuPublicParmsTable, tpmuPublicIdTable, tpmuSensitiveCompositeTable, tpmuSignatureTable, tpmuAttestTable, tpmuCapabilitiesTable, tpmuNvPublic2Table, tpmuHaArm, tpmuAsymSchemeArm, tpmuSigSchemeArm, tpmuKeyedhashSchemeArm, tpmuKdfSchemeArm, tpmuSymKeyBitsArm, tpmuSymModeArm, tpmuPublicParmsArm, tpmuPublicIdArm, tpmuSensitiveCompositeArm, tpmuSignatureArm, tpmuAttestArm, tpmuCapabilitiesArm, tpmuNvPublic2Arm, tpmsSchemeHash, tpmsSchemeEcdaa, tpmsSchemeXor, tpmuHa, tpmuAsymScheme, tpmuSigScheme, tpmuKeyedhashScheme, tpmuKdfScheme, tpmuSymKeyBits, tpmuSymMode, tpmuPublicParms, tpmuPublicId, tpmuSensitiveComposite, tpmuSignature, tpmuAttest, tpmuCapabilities, tpmuNvPublic2, tpmtHa, tpmtSymDef, tpmtKdfScheme, tpmtKeyedhashScheme, tpmtSigScheme, tpmtAsymScheme, tpmsRsaParms, tpmsEccParms, tpmsEccPoint, tpmsSignatureRsa, tpmsSignatureEcc, tpmtPublicParms, tpmtSignature, tpmtPublic, tpmtSensitive, tpml, tpmlPcrSelection, tpmsClockInfo, tpmsCertifyInfo, tpmsCreationInfo, tpmsQuoteInfo, tpmsCommandAuditInfo, tpmsSessionAuditInfo, tpmsTimeInfo, tpmsTimeAttestInfo, tpmsNvCertifyInfo, tpmsNvDigestCertifyInfo, tpmsAttest, tpmsCapabilityData, nvPublicTail, tpmsNvPublic, tpmsNvPublicExpAttr, tpmtNvPublic2, ticketBody, ticket, tpmtTkCreation, tpmtTkVerified, tpmtTkHashcheck, tpmtTkAuth, kinds, layoutOf}
 use Rattle.format.specs.Sizes.{greatest, AllGreatest}
 use Rattle.format.proofs.Tables.{_&_}
 use Rattle.format.proofs.Bounds.{one-most, none-most, RowsMost, union-most, follows, ha-most, ha-reaches}
@@ -193,6 +194,24 @@ capability-most = follows 4 1124 cap (λ v. union-most 1124 tpmuCapabilitiesTabl
         list-most AlgProperty & list-most Handle & list-most Cca & list-most Cc & list-most Cc & list-most PcrSelection
         & list-most TaggedTpmProperty & list-most EccCurve & list-most TaggedPolicy & list-most ActData & tt
 
+area-tail-most : AtMost nvPublicTail 68
+area-tail-most = buffer-most 2 64 2 (one-most 2 free)
+
+area-most : AtMost tpmtNvPublic2 83
+unfolding tpmtNvPublic2 tpmuNvPublic2 tpmsNvPublic tpmsNvPublicExpAttr
+area-most = follows 1 82 handleType (λ v. union-most 82 tpmuNvPublic2Table rows (tpmuNvPublic2Arm v) v)
+  where
+    area : AtMost tpmsNvPublic 82
+    area = most-wider (omega arith) (follows 4 74 free (λ n. follows 2 72 alg (λ n. follows 4 68 free (λ n. area-tail-most))))
+
+    rows : RowsMost tpmuNvPublic2Table 82
+    rows = area & follows 4 78 free (λ n. follows 2 76 alg (λ n. follows 8 68 free (λ n. area-tail-most))) & area & tt
+
+-- whatever the rule of its tag is
+ticket-most : (r : Rule) → AtMost (ticket r) 72
+unfolding ticketBody
+ticket-most r = follows 2 70 r (λ n. follows 4 66 hierarchy (λ n. buffer-most 2 64 0 stop-most))
+
 -- ---- and one is so large
 
 code-reaches : Reaches (one 2 alg) 2
@@ -287,6 +306,22 @@ capability-reaches : Reaches tpmsCapabilityData 1128
 unfolding tpmsCapabilityData isCap caps tpmuCapabilities tpmuCapabilitiesArm
 capability-reaches = number-reaches 4 cap capAuthPolicies (omega arith) refl (arm-reaches capAuthPolicies capAuthPolicies (list-greatest TaggedPolicy .reached))
 
+-- an expanded area with a policy of 64 bytes
+area-reaches : Reaches tpmtNvPublic2 83
+unfolding tpmtNvPublic2 isHandleType handleTypes tpmuNvPublic2 tpmuNvPublic2Arm tpmsNvPublicExpAttr isAlgorithm algorithms
+area-reaches =
+    number-reaches 1 handleType htExternalNv (omega arith) refl
+    (arm-reaches htExternalNv htExternalNv
+    (number-reaches 4 free 0 (omega arith) refl
+    (number-reaches 2 alg 0x0B (omega arith) refl
+    (number-reaches 8 free 0 (omega arith) refl
+    (buffer-reaches 2 64 (omega arith) (number-reaches 2 free 0 (omega arith) refl stop-reaches))))))
+
+-- a ticket with a digest of 64 bytes, by a tag that its rule takes
+ticket-reaches : (r : Rule) (n : ℕ) → n < 256 ^ 2 → allows r n ≡ true → Reaches (ticket r) 72
+unfolding ticketBody isHierarchy hierarchies
+ticket-reaches r n h a = number-reaches 2 r n h a (number-reaches 4 hierarchy rhOwner (omega arith) refl (buffer-reaches 2 64 (omega arith) stop-reaches))
+
 -- ---- all kinds
 
 both : {l : Layout} {m : ℕ} → AtMost l m → Reaches l m → Greatest l m
@@ -294,7 +329,7 @@ both h g = record { most = h; reached = g }
 
 -- no record of a kind is larger than this, and one is so large
 pub greatest-sizes : AllGreatest kinds greatest
-unfolding kinds greatest
+unfolding kinds greatest tpmtTkCreation tpmtTkVerified tpmtTkHashcheck tpmtTkAuth
 greatest-sizes =
     let scheme = both asym-most asym-reaches in
     both ha-most ha-reaches
@@ -310,6 +345,11 @@ greatest-sizes =
     & both attest-most attest-reaches
     & both pcr-most pcr-reaches
     & both capability-most capability-reaches
+    & both area-most area-reaches
+    & both (ticket-most (ticketTag Creation)) (ticket-reaches (ticketTag Creation) stCreation (omega arith) refl)
+    & both (ticket-most (ticketTag Verified)) (ticket-reaches (ticketTag Verified) stVerified (omega arith) refl)
+    & both (ticket-most (ticketTag Hashcheck)) (ticket-reaches (ticketTag Hashcheck) stHashcheck (omega arith) refl)
+    & both (ticket-most (ticketTag Auth)) (ticket-reaches (ticketTag Auth) stAuthSigned (omega arith) refl)
     & tt
 
 -- ---- and any
@@ -322,7 +362,7 @@ all-within : Within 2287 greatest
 unfolding greatest
 all-within =
     omega arith & omega arith & omega arith & omega arith & omega arith & omega arith & omega arith & omega arith & omega arith & omega arith
-    & omega arith & omega arith & omega arith & omega arith & omega arith & tt
+    & omega arith & omega arith & omega arith & omega arith & omega arith & omega arith & omega arith & omega arith & omega arith & omega arith & tt
 
 each-most : {m : ℕ} (ls : List Layout) (ns : List ℕ) → AllGreatest ls ns → Within m ns → (k : ℕ) → AtMost (getD ls k (noArm 0)) m
 each-most {m} [] [] g w k = no-arm-most 0 m

@@ -6,7 +6,7 @@ use mathlib.Core.Bool.{_||_}
 use mathlib.Core.List.{List, [], _∷_, _++_}
 use lib.ListN.{replicate}
 use lib.Dec.{eqb}
-use Rattle.faults.specs.Faults.{unknownCode, noSuchArm}
+use Rattle.faults.specs.Faults.{unknownCode, noSuchArm, badValue}
 use Rattle.faults.specs.declared.Refusal.{Refusal}
 use Rattle.wire.specs.Bytes.{be}
 use Rattle.wire.specs.Layout.{one, free, _then_}
@@ -14,15 +14,16 @@ use Rattle.wire.specs.Unions.{own}
 use Rattle.wire.specs.Records.{num, tag, span, refused, parsed, Ans, Parsed}
 use Rattle.wire.specs.Reading.{piece, field, read, list}
 use Rattle.wire.specs.Editions.{Later}
-use Rattle.codes.specs.Codes.{algorithms, isAlgorithm, isCurve, isAttestation, isCap, sha1, curves, attestations, caps, capAlgs, capPcrs, capPcrProperties, capEccCurves, capAuthPolicies, capTpmProperties}
+use Rattle.codes.specs.Codes.{algorithms, isAlgorithm, isCurve, isAttestation, isCap, isHandleType, isHierarchy, handleTypes, hierarchies, sha1, curves, attestations, caps, capAlgs, capPcrs, capPcrProperties, capEccCurves, capAuthPolicies, capTpmProperties}
 use Rattle.codes.specs.Digests.{digestRow}
-use Rattle.format.specs.Kinds.{digestOf, tpmuHaArm, tpmuHa, tpmtHa, kinds, layoutOf, tpmuAsymSchemeArm, tpmuAsymScheme, tpmuSigSchemeArm, tpmuSigScheme, tpmuKeyedhashSchemeArm, tpmuKeyedhashScheme, tpmuKdfSchemeArm, tpmuKdfScheme, tpmuSymKeyBitsArm, tpmuSymKeyBits, tpmuSymModeArm, tpmuSymMode, tpmuPublicParmsArm, tpmuPublicParms, tpmuPublicIdArm, tpmuPublicId, tpmuSensitiveCompositeArm, tpmuSensitiveComposite, tpmuSignatureArm, tpmuSignature, tpmuAttestArm, tpmuAttest, tpmuCapabilitiesArm, tpmuCapabilities, tpmsSchemeHash, tpmsSchemeEcdaa, tpmsSchemeXor, tpmtSymDef, tpmtKdfScheme, tpmtKeyedhashScheme, tpmtSigScheme, tpmtAsymScheme, tpmsRsaParms, tpmsEccParms, tpmsSignatureRsa, tpmsSignatureEcc, tpmtPublicParms, tpmtSignature, tpmtPublic, tpmtSensitive, tpmsPcrSelection, tpmsAlgProperty, tpmsTaggedProperty, tpmsTaggedPolicy, tpmlPcrSelection, tpmsQuoteInfo, tpmsCommandAuditInfo, tpmsAttest, tpmsCapabilityData, tpmsClockInfo}
+use Rattle.format.specs.Kinds.{digestOf, tpmuHaArm, tpmuHa, tpmtHa, kinds, layoutOf, tpmuAsymSchemeArm, tpmuAsymScheme, tpmuSigSchemeArm, tpmuSigScheme, tpmuKeyedhashSchemeArm, tpmuKeyedhashScheme, tpmuKdfSchemeArm, tpmuKdfScheme, tpmuSymKeyBitsArm, tpmuSymKeyBits, tpmuSymModeArm, tpmuSymMode, tpmuPublicParmsArm, tpmuPublicParms, tpmuPublicIdArm, tpmuPublicId, tpmuSensitiveCompositeArm, tpmuSensitiveComposite, tpmuSignatureArm, tpmuSignature, tpmuAttestArm, tpmuAttest, tpmuCapabilitiesArm, tpmuCapabilities, tpmsSchemeHash, tpmsSchemeEcdaa, tpmsSchemeXor, tpmtSymDef, tpmtKdfScheme, tpmtKeyedhashScheme, tpmtSigScheme, tpmtAsymScheme, tpmsRsaParms, tpmsEccParms, tpmsSignatureRsa, tpmsSignatureEcc, tpmtPublicParms, tpmtSignature, tpmtPublic, tpmtSensitive, tpmsPcrSelection, tpmsAlgProperty, tpmsTaggedProperty, tpmsTaggedPolicy, tpmlPcrSelection, tpmsQuoteInfo, tpmsCommandAuditInfo, tpmsAttest, tpmsCapabilityData, tpmsClockInfo, tpmuNvPublic2Arm, tpmuNvPublic2, tpmsNvPublic, tpmsNvPublicExpAttr, tpmtNvPublic2, ticketBody, tpmtTkCreation, tpmtTkVerified, tpmtTkHashcheck, tpmtTkAuth}
 use Rattle.format.specs.Editions.{Edition, Extends}
-use Rattle.format.specs.EditionKinds.{tpmuHaIn, tpmtHaIn, kindsIn, layoutIn, tpmuAsymSchemeIn, tpmuSigSchemeIn, tpmuKeyedhashSchemeIn, tpmuKdfSchemeIn, tpmuSymKeyBitsIn, tpmuSymModeIn, tpmuPublicParmsIn, tpmuPublicIdIn, tpmuSensitiveCompositeIn, tpmuSignatureIn, tpmuAttestIn, tpmuCapabilitiesIn, tpmsSchemeHashIn, tpmsSchemeEcdaaIn, tpmsSchemeXorIn, tpmtSymDefIn, tpmtKdfSchemeIn, tpmtKeyedhashSchemeIn, tpmtSigSchemeIn, tpmtAsymSchemeIn, tpmsRsaParmsIn, tpmsEccParmsIn, tpmsSignatureRsaIn, tpmsSignatureEccIn, tpmtPublicParmsIn, tpmtSignatureIn, tpmtPublicIn, tpmtSensitiveIn, tpmsPcrSelectionIn, tpmsAlgPropertyIn, tpmsTaggedPolicyIn, tpmlPcrSelectionIn, tpmsQuoteInfoIn, tpmsCommandAuditInfoIn, tpmsAttestIn, tpmsCapabilityDataIn}
+use Rattle.format.specs.EditionKinds.{tpmuHaIn, tpmtHaIn, kindsIn, layoutIn, tpmuAsymSchemeIn, tpmuSigSchemeIn, tpmuKeyedhashSchemeIn, tpmuKdfSchemeIn, tpmuSymKeyBitsIn, tpmuSymModeIn, tpmuPublicParmsIn, tpmuPublicIdIn, tpmuSensitiveCompositeIn, tpmuSignatureIn, tpmuAttestIn, tpmuCapabilitiesIn, tpmsSchemeHashIn, tpmsSchemeEcdaaIn, tpmsSchemeXorIn, tpmtSymDefIn, tpmtKdfSchemeIn, tpmtKeyedhashSchemeIn, tpmtSigSchemeIn, tpmtAsymSchemeIn, tpmsRsaParmsIn, tpmsEccParmsIn, tpmsSignatureRsaIn, tpmsSignatureEccIn, tpmtPublicParmsIn, tpmtSignatureIn, tpmtPublicIn, tpmtSensitiveIn, tpmsPcrSelectionIn, tpmsAlgPropertyIn, tpmsTaggedPolicyIn, tpmlPcrSelectionIn, tpmsQuoteInfoIn, tpmsCommandAuditInfoIn, tpmsAttestIn, tpmsCapabilityDataIn, tpmuNvPublic2In, tpmsNvPublicIn, tpmsNvPublicExpAttrIn, tpmtNvPublic2In, ticketBodyIn, tpmtTkCreationIn, tpmtTkVerifiedIn, tpmtTkHashcheckIn, tpmtTkAuthIn}
 use Rattle.format.proofs.Editions.{extension-is-later}
 
--- algorithm 002F, curve 0050, attestation type 8020 and capability 0B are listed; 002F, 8020 and 0B have an arm in every table, a digest of
--- 28 bytes or a number; and 002A and capability 7, which are listed here and have no arm, have a digest of 16 and a number
+-- algorithm 002F, curve 0050, attestation type 8020, capability 0B, handle type 13 and hierarchy 40000010 are listed; 002F, 8020, 0B and 13 have an
+-- arm in every table, a digest of 28 bytes or a number; and 002A and capability 7, which are listed here and have no arm, have a digest of 16 and a
+-- number
 abbrev pub newEdition : Edition
 newEdition =
     record {
@@ -30,6 +31,8 @@ newEdition =
       isCurve = λ n. isCurve n || eqb n 0x50;
       isAttestation = λ n. isAttestation n || eqb n 0x8020;
       isCap = λ n. isCap n || eqb n 0x0B;
+      isHandleType = λ n. isHandleType n || eqb n 0x13;
+      isHierarchy = λ n. isHierarchy n || eqb n 0x40000010;
       tpmuHa = digestRow 0x2F 28 ∷ digestRow 0x2A 16 ∷ [];
       tpmuAsymScheme = own 0x2F (one 2 free) ∷ [];
       tpmuSigScheme = own 0x2F (one 2 free) ∷ [];
@@ -43,10 +46,11 @@ newEdition =
       tpmuSignature = own 0x2F (one 2 free) ∷ [];
       tpmuAttest = own 0x8020 (one 2 free) ∷ [];
       tpmuCapabilities = own capPcrProperties (one 4 free) ∷ own 0x0B (one 4 free) ∷ [];
+      tpmuNvPublic2 = own 0x13 (one 2 free) ∷ [];
     }
 
 pub new-extends : Extends newEdition
-new-extends = record { algorithms = λ n h. rw h; curves = λ n h. rw h; attestations = λ n h. rw h; caps = λ n h. rw h }
+new-extends = record { algorithms = λ n h. rw h; curves = λ n h. rw h; attestations = λ n h. rw h; caps = λ n h. rw h; handleTypes = λ n h. rw h; hierarchies = λ n h. rw h }
 
 -- so each of its kinds is later than ours
 pub new-is-later : (k : ℕ) → Later (layoutOf k) (layoutIn newEdition k)
@@ -91,6 +95,13 @@ pub property-is-no-code :
     × (read (layoutOf 15) (0 ∷ 0 ∷ 0 ∷ capTpmProperties ∷ 0 ∷ 0 ∷ 0 ∷ 1 ∷ 0 ∷ 0 ∷ 0x00 ∷ 0x2F ∷ 0 ∷ 0 ∷ 0x00 ∷ 0x2F ∷ []) 0 ≡ parsed (num 6 ∷ tag 6 ∷ span 4 12 ∷ []) 16)
 unfolding read field piece list be layoutIn kindsIn tpmsCapabilityDataIn tpmuCapabilitiesIn layoutOf kinds tpmsCapabilityData tpmuCapabilities tpmuCapabilitiesArm tpmsTaggedProperty isCap caps
 property-is-no-code = (refl, refl)
+
+-- a tag of another ticket is refused in the edition as it is here: a fixed value is no matter of editions
+pub tag-is-no-code :
+    (read (layoutIn newEdition 18) (0x80 ∷ 0x21 ∷ 0x40 ∷ 0 ∷ 0 ∷ 0x10 ∷ 0 ∷ 0 ∷ []) 0 ≡ refused (badValue 0 0x8021))
+    × (read (layoutOf 18) (0x80 ∷ 0x21 ∷ 0x40 ∷ 0 ∷ 0 ∷ 0x10 ∷ 0 ∷ 0 ∷ []) 0 ≡ refused (badValue 0 0x8021))
+unfolding read field piece be layoutIn kindsIn tpmtTkVerifiedIn layoutOf kinds tpmtTkVerified
+tag-is-no-code = (refl, refl)
 
 -- ---- every list and every table of the edition is used
 
@@ -147,6 +158,14 @@ newRecords =
     ∷ new 15 (capOne capEccCurves (0 ∷ 0 ∷ 0 ∷ 1 ∷ 0x00 ∷ 0x50 ∷ [])) (parsed (num 8 ∷ tag 8 ∷ span 4 6 ∷ []) 10) (unknownCode 8 0x50)
     ∷ new 15 (capOne capAuthPolicies (0 ∷ 0 ∷ 0 ∷ 1 ∷ 0 ∷ 0 ∷ 0 ∷ 0 ∷ 0x00 ∷ 0x2A ∷ replicate 16 7)) (parsed (num 9 ∷ tag 9 ∷ span 4 26 ∷ []) 30) (noSuchArm 14 0x2A)
     ∷ new 15 (capOne capAuthPolicies (0 ∷ 0 ∷ 0 ∷ 1 ∷ 0 ∷ 0 ∷ 0 ∷ 0 ∷ unlisted)) (parsed (num 9 ∷ tag 9 ∷ span 4 38 ∷ []) 42) (unknownCode 12 0x2F)
+    -- a handle type of the edition's, 002F as the name algorithm of either area, and a hierarchy of the edition's in each ticket
+    ∷ new 16 (0x13 ∷ 0 ∷ 1 ∷ []) (parsed (num 0x13 ∷ tag 0x13 ∷ num 1 ∷ []) 3) (unknownCode 0 0x13)
+    ∷ new 16 (0x01 ∷ 0 ∷ 0 ∷ 0 ∷ 1 ∷ 0x00 ∷ 0x2F ∷ 0 ∷ 0 ∷ 0 ∷ 2 ∷ 0 ∷ 0 ∷ 0 ∷ 3 ∷ []) (parsed (num 1 ∷ tag 1 ∷ num 1 ∷ num 0x2F ∷ num 2 ∷ span 13 0 ∷ num 3 ∷ []) 15) (unknownCode 5 0x2F)
+    ∷ new 16 (0x11 ∷ 0 ∷ 0 ∷ 0 ∷ 1 ∷ 0x00 ∷ 0x2F ∷ 0 ∷ 0 ∷ 0 ∷ 0 ∷ 0 ∷ 0 ∷ 0 ∷ 2 ∷ 0 ∷ 0 ∷ 0 ∷ 3 ∷ []) (parsed (num 0x11 ∷ tag 0x11 ∷ num 1 ∷ num 0x2F ∷ num 2 ∷ span 17 0 ∷ num 3 ∷ []) 19) (unknownCode 5 0x2F)
+    ∷ new 17 (0x80 ∷ 0x21 ∷ 0x40 ∷ 0 ∷ 0 ∷ 0x10 ∷ 0 ∷ 0 ∷ []) (parsed (num 0x8021 ∷ num 0x40000010 ∷ span 8 0 ∷ []) 8) (unknownCode 2 0x40000010)
+    ∷ new 18 (0x80 ∷ 0x22 ∷ 0x40 ∷ 0 ∷ 0 ∷ 0x10 ∷ 0 ∷ 0 ∷ []) (parsed (num 0x8022 ∷ num 0x40000010 ∷ span 8 0 ∷ []) 8) (unknownCode 2 0x40000010)
+    ∷ new 19 (0x80 ∷ 0x24 ∷ 0x40 ∷ 0 ∷ 0 ∷ 0x10 ∷ 0 ∷ 0 ∷ []) (parsed (num 0x8024 ∷ num 0x40000010 ∷ span 8 0 ∷ []) 8) (unknownCode 2 0x40000010)
+    ∷ new 20 (0x80 ∷ 0x25 ∷ 0x40 ∷ 0 ∷ 0 ∷ 0x10 ∷ 0 ∷ 0 ∷ []) (parsed (num 0x8025 ∷ num 0x40000010 ∷ span 8 0 ∷ []) 8) (unknownCode 2 0x40000010)
     ∷ []
 
 -- the edition reads each of them so, and we refuse it so
@@ -155,5 +174,5 @@ AllAnswered [] = Unit {0}
 AllAnswered (r ∷ rs) = (read (layoutIn newEdition (r .kind)) (r .spelled) 0 ≡ r .theirs) × (read (layoutOf (r .kind)) (r .spelled) 0 ≡ refused (r .ours)) × AllAnswered rs
 
 pub new-records-are-answered : AllAnswered newRecords
-unfolding read field piece list be layoutIn layoutOf isAlgorithm algorithms isCurve curves isAttestation attestations isCap caps _then_ kindsIn kinds tpmuHaIn tpmuAsymSchemeIn tpmuSigSchemeIn tpmuKeyedhashSchemeIn tpmuKdfSchemeIn tpmuSymKeyBitsIn tpmuSymModeIn tpmuPublicParmsIn tpmuPublicIdIn tpmuSensitiveCompositeIn tpmuSignatureIn tpmuAttestIn tpmuCapabilitiesIn tpmsSchemeHashIn tpmsSchemeEcdaaIn tpmsSchemeXorIn tpmtHaIn tpmtSymDefIn tpmtKdfSchemeIn tpmtKeyedhashSchemeIn tpmtSigSchemeIn tpmtAsymSchemeIn tpmsRsaParmsIn tpmsEccParmsIn tpmsSignatureRsaIn tpmsSignatureEccIn tpmtPublicParmsIn tpmtSignatureIn tpmtPublicIn tpmtSensitiveIn tpmsPcrSelectionIn tpmsAlgPropertyIn tpmsTaggedPolicyIn tpmlPcrSelectionIn tpmsQuoteInfoIn tpmsCommandAuditInfoIn tpmsAttestIn tpmsCapabilityDataIn tpmuHaArm tpmuHa tpmuAsymSchemeArm tpmuAsymScheme tpmuSigSchemeArm tpmuSigScheme tpmuKeyedhashSchemeArm tpmuKeyedhashScheme tpmuKdfSchemeArm tpmuKdfScheme tpmuSymKeyBitsArm tpmuSymKeyBits tpmuSymModeArm tpmuSymMode tpmuPublicParmsArm tpmuPublicParms tpmuPublicIdArm tpmuPublicId tpmuSensitiveCompositeArm tpmuSensitiveComposite tpmuSignatureArm tpmuSignature tpmuAttestArm tpmuAttest tpmuCapabilitiesArm tpmuCapabilities tpmsSchemeHash tpmsSchemeEcdaa tpmsSchemeXor tpmtHa tpmtSymDef tpmtKdfScheme tpmtKeyedhashScheme tpmtSigScheme tpmtAsymScheme tpmsRsaParms tpmsEccParms tpmsSignatureRsa tpmsSignatureEcc tpmtPublicParms tpmtSignature tpmtPublic tpmtSensitive tpmsPcrSelection tpmsAlgProperty tpmsTaggedPolicy tpmlPcrSelection tpmsQuoteInfo tpmsCommandAuditInfo tpmsClockInfo tpmsAttest tpmsCapabilityData
-new-records-are-answered = (refl, refl, (refl, refl, (refl, refl, (refl, refl, (refl, refl, (refl, refl, (refl, refl, (refl, refl, (refl, refl, (refl, refl, (refl, refl, (refl, refl, (refl, refl, (refl, refl, (refl, refl, (refl, refl, (refl, refl, (refl, refl, (refl, refl, (refl, refl, (refl, refl, (refl, refl, (refl, refl, (refl, refl, (refl, refl, (refl, refl, (refl, refl, tt)))))))))))))))))))))))))))
+unfolding read field piece list be layoutIn layoutOf isAlgorithm algorithms isCurve curves isAttestation attestations isCap caps isHandleType handleTypes isHierarchy hierarchies _then_ kindsIn kinds tpmuHaIn tpmuAsymSchemeIn tpmuSigSchemeIn tpmuKeyedhashSchemeIn tpmuKdfSchemeIn tpmuSymKeyBitsIn tpmuSymModeIn tpmuPublicParmsIn tpmuPublicIdIn tpmuSensitiveCompositeIn tpmuSignatureIn tpmuAttestIn tpmuCapabilitiesIn tpmsSchemeHashIn tpmsSchemeEcdaaIn tpmsSchemeXorIn tpmtHaIn tpmtSymDefIn tpmtKdfSchemeIn tpmtKeyedhashSchemeIn tpmtSigSchemeIn tpmtAsymSchemeIn tpmsRsaParmsIn tpmsEccParmsIn tpmsSignatureRsaIn tpmsSignatureEccIn tpmtPublicParmsIn tpmtSignatureIn tpmtPublicIn tpmtSensitiveIn tpmsPcrSelectionIn tpmsAlgPropertyIn tpmsTaggedPolicyIn tpmlPcrSelectionIn tpmsQuoteInfoIn tpmsCommandAuditInfoIn tpmsAttestIn tpmsCapabilityDataIn tpmuHaArm tpmuHa tpmuAsymSchemeArm tpmuAsymScheme tpmuSigSchemeArm tpmuSigScheme tpmuKeyedhashSchemeArm tpmuKeyedhashScheme tpmuKdfSchemeArm tpmuKdfScheme tpmuSymKeyBitsArm tpmuSymKeyBits tpmuSymModeArm tpmuSymMode tpmuPublicParmsArm tpmuPublicParms tpmuPublicIdArm tpmuPublicId tpmuSensitiveCompositeArm tpmuSensitiveComposite tpmuSignatureArm tpmuSignature tpmuAttestArm tpmuAttest tpmuCapabilitiesArm tpmuCapabilities tpmsSchemeHash tpmsSchemeEcdaa tpmsSchemeXor tpmtHa tpmtSymDef tpmtKdfScheme tpmtKeyedhashScheme tpmtSigScheme tpmtAsymScheme tpmsRsaParms tpmsEccParms tpmsSignatureRsa tpmsSignatureEcc tpmtPublicParms tpmtSignature tpmtPublic tpmtSensitive tpmsPcrSelection tpmsAlgProperty tpmsTaggedPolicy tpmlPcrSelection tpmsQuoteInfo tpmsCommandAuditInfo tpmsClockInfo tpmsAttest tpmsCapabilityData tpmuNvPublic2In tpmsNvPublicIn tpmsNvPublicExpAttrIn tpmtNvPublic2In ticketBodyIn tpmtTkCreationIn tpmtTkVerifiedIn tpmtTkHashcheckIn tpmtTkAuthIn tpmuNvPublic2Arm tpmuNvPublic2 tpmsNvPublic tpmsNvPublicExpAttr tpmtNvPublic2 ticketBody tpmtTkCreation tpmtTkVerified tpmtTkHashcheck tpmtTkAuth
+new-records-are-answered = (refl, refl, (refl, refl, (refl, refl, (refl, refl, (refl, refl, (refl, refl, (refl, refl, (refl, refl, (refl, refl, (refl, refl, (refl, refl, (refl, refl, (refl, refl, (refl, refl, (refl, refl, (refl, refl, (refl, refl, (refl, refl, (refl, refl, (refl, refl, (refl, refl, (refl, refl, (refl, refl, (refl, refl, (refl, refl, (refl, refl, (refl, refl, (refl, refl, (refl, refl, (refl, refl, (refl, refl, (refl, refl, (refl, refl, (refl, refl, tt))))))))))))))))))))))))))))))))))

@@ -15,17 +15,17 @@ use Rattle.format.specs.Kinds.{kinds, isKind, layoutOf, readKind}
 use Rattle.codes.proofs.Choices.{Unmatched}
 pub use borrow.Author.Needs.{needs}
 
--- the last is 15
-pub kinds-15 : length kinds ≡ 15
+-- the last is 20
+pub how-many-kinds : length kinds ≡ 20
 unfolding kinds
-kinds-15 = refl
+how-many-kinds = refl
 
--- 0, and every number past 15, is none
-pub outside : (k : ℕ) → (0 < k → 15 < k) → isKind k ≡ false
-outside k h = rw kinds-15 (go (ltb 0 k) refl)
+-- 0, and every number past 20, is none
+pub outside : (k : ℕ) → (0 < k → 20 < k) → isKind k ≡ false
+outside k h = rw how-many-kinds (go (ltb 0 k) refl)
   where
-    go : (b : Bool) → ltb 0 k ≡ b → (b && leb k 15) ≡ false
-    go true e = lt-leb k 15 (h (ltb-true 0 k e))
+    go : (b : Bool) → ltb 0 k ≡ b → (b && leb k 20) ≡ false
+    go true e = lt-leb k 20 (h (ltb-true 0 k e))
     go false e = refl
 
 -- a number that is a kind's is read as that kind
@@ -55,8 +55,8 @@ past-all (suc n) k u p =
     omega arith
 
 -- what none of the kinds' numbers is, is no kind
-pub none-of : (k : ℕ) → Unmatched (upTo 15) k → isKind k ≡ false
-none-of k u = outside k (past-all 15 k u)
+pub none-of : (k : ℕ) → Unmatched (upTo 20) k → isKind k ≡ false
+none-of k u = outside k (past-all 20 k u)
 
 -- ---- for `search`
 

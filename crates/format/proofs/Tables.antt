@@ -10,7 +10,7 @@ use Rattle.wire.specs.declared.choice.Choice.{Choice}
 use Rattle.wire.specs.declared.choice.Choice.the-variants.{Nothing, The}
 use Rattle.wire.specs.Layout.{Layout, stop, plain}
 use Rattle.wire.specs.Unions.{Row}
-use Rattle.format.specs.Kinds.{digestOf, digestSize, tpmsSchemeHash, tpmuHaTable, tpmuAsymSchemeTable, tpmuSigSchemeTable, tpmuKeyedhashSchemeTable, tpmuKdfSchemeTable, tpmuSymKeyBitsTable, tpmuSymModeTable, tpmuPublicParmsTable, tpmuPublicIdTable, tpmuSensitiveCompositeTable, tpmuSignatureTable, tpmuAttestTable, tpmuCapabilitiesTable, tpmuHaArm, tpmuHaBody, tpmuSigSchemeArm, tpmuSigSchemeBody, tpmuPublicParmsArm, tpmuPublicIdArm, tpmuAttestArm, tpmuCapabilitiesArm}
+use Rattle.format.specs.Kinds.{digestOf, digestSize, tpmsSchemeHash, tpmuHaTable, tpmuAsymSchemeTable, tpmuSigSchemeTable, tpmuKeyedhashSchemeTable, tpmuKdfSchemeTable, tpmuSymKeyBitsTable, tpmuSymModeTable, tpmuPublicParmsTable, tpmuPublicIdTable, tpmuSensitiveCompositeTable, tpmuSignatureTable, tpmuAttestTable, tpmuCapabilitiesTable, tpmuNvPublic2Table, tpmuHaArm, tpmuHaBody, tpmuSigSchemeArm, tpmuSigSchemeBody, tpmuPublicParmsArm, tpmuPublicIdArm, tpmuAttestArm, tpmuCapabilitiesArm}
 use Rattle.codes.specs.Codes.{null, ecdaa, member, attestations, caps, isAttestation, isCap, capPcrProperties}
 use Rattle.codes.proofs.Ranges.{cap-test}
 use Rattle.codes.proofs.Digests.{Agrees, digests-agree, digest-sized}
@@ -42,10 +42,11 @@ tables =
     ∷ tpmuSignatureTable
     ∷ tpmuAttestTable
     ∷ tpmuCapabilitiesTable
+    ∷ tpmuNvPublic2Table
     ∷ []
 
 pub tables-agree : AllAgree tables
-tables-agree = digests-agree & refl & refl & refl & refl & refl & refl & refl & refl & refl & refl & refl & refl & tt
+tables-agree = digests-agree & refl & refl & refl & refl & refl & refl & refl & refl & refl & refl & refl & refl & refl & tt
 
 -- parameters and unique are chosen alike
 pub id-arm : (v : ℕ) → tpmuPublicIdArm v ≡ tpmuPublicParmsArm v

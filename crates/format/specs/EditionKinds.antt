@@ -5,10 +5,11 @@ use mathlib.Core.List.{List, [], _∷_, _++_}
 use lib.ListN.{getD}
 use Rattle.wire.specs.Layout.{Rule, listed, Layout, stop, noArm, number, buffer, counted, one, free, _then_}
 use Rattle.wire.specs.Unions.{Row, row, own, armOf, bodyOf, union}
-use Rattle.codes.specs.Codes.{magic, rsa, hmac, aes, mgf1, keyedHash, xor, null, sm4, rsassa, rsaes, rsapss, oaep, ecdsa, ecdh, ecdaa, sm2, ecschnorr, ecmqv, kdf1-sp800-56a, kdf2, kdf1-sp800-108, ecc, symCipher, camellia, attestNv, attestCommandAudit, attestSessionAudit, attestCertify, attestQuote, attestTime, attestCreation, attestNvDigest, capAlgs, capHandles, capCommands, capPpCommands, capAuditCommands, capPcrs, capTpmProperties, capEccCurves, capAuthPolicies, capAct}
+use Rattle.codes.specs.declared.Ticket.the-variants.{Creation, Verified, Hashcheck, Auth}
+use Rattle.codes.specs.Codes.{magic, ticketTag, rsa, hmac, aes, mgf1, keyedHash, xor, null, sm4, rsassa, rsaes, rsapss, oaep, ecdsa, ecdh, ecdaa, sm2, ecschnorr, ecmqv, kdf1-sp800-56a, kdf2, kdf1-sp800-108, ecc, symCipher, camellia, attestNv, attestCommandAudit, attestSessionAudit, attestCertify, attestQuote, attestTime, attestCreation, attestNvDigest, capAlgs, capHandles, capCommands, capPpCommands, capAuditCommands, capPcrs, capTpmProperties, capEccCurves, capAuthPolicies, capAct, htNvIndex, htExternalNv, htPermanentNv}
 use Rattle.format.specs.declared.list.ListOf.{ListOf}
 use Rattle.format.specs.declared.list.ListOf.the-variants.{AlgProperty, Handle, Cca, Cc, PcrSelection, TaggedTpmProperty, EccCurve, TaggedPolicy, ActData}
-use Rattle.format.specs.Kinds.{hash, mostItems, tpmuHaTable, tpmuPublicIdTable, tpmuSensitiveCompositeTable, digest, publicKeyRsa, eccParameter, name, qualifying, tpmsClockInfo, tpmsCertifyInfo, tpmsCreationInfo, tpmsSessionAuditInfo, tpmsTimeAttestInfo, tpmsNvCertifyInfo, tpmsNvDigestCertifyInfo, tpmsTaggedProperty, tpmsActData}
+use Rattle.format.specs.Kinds.{hash, mostItems, tpmuHaTable, tpmuPublicIdTable, tpmuSensitiveCompositeTable, digest, publicKeyRsa, eccParameter, name, qualifying, tpmsClockInfo, tpmsCertifyInfo, tpmsCreationInfo, tpmsSessionAuditInfo, tpmsTimeAttestInfo, tpmsNvCertifyInfo, tpmsNvDigestCertifyInfo, tpmsTaggedProperty, tpmsActData, nvPublicTail}
 use Rattle.format.specs.Editions.{Edition}
 
 -- the union of a table: what its selector v chooses
@@ -29,6 +30,12 @@ module _ (e : Edition) where
 
   abbrev pub capIn : Rule
   capIn = listed (λ n. e .isCap n)
+
+  abbrev pub handleTypeIn : Rule
+  handleTypeIn = listed (λ n. e .isHandleType n)
+
+  abbrev pub hierarchyIn : Rule
+  hierarchyIn = listed (λ n. e .isHierarchy n)
 
   -- ---- digests, ciphers and schemes: kinds 1 to 8
 
@@ -340,6 +347,63 @@ module _ (e : Edition) where
   unfoldable pub tpmsCapabilityDataIn : Layout
   tpmsCapabilityDataIn = number 4 capIn (λ capability. tpmuCapabilitiesIn capability)
 
+  -- ---- where a TPM keeps its own data, and what it has checked: kinds 16 to 20
+
+  -- TPMS_NV_PUBLIC
+  unfoldable pub tpmsNvPublicIn : Layout
+  tpmsNvPublicIn =
+      number 4 free (λ nvIndex.
+      number 2 algIn (λ nameAlg.
+      number 4 free (λ attributes.
+      nvPublicTail)))
+
+  -- TPMS_NV_PUBLIC_EXP_ATTR: the same with attributes of 8 bytes
+  unfoldable pub tpmsNvPublicExpAttrIn : Layout
+  tpmsNvPublicExpAttrIn =
+      number 4 free (λ nvIndex.
+      number 2 algIn (λ nameAlg.
+      number 8 free (λ attributes.
+      nvPublicTail)))
+
+  -- TPMU_NV_PUBLIC_2
+  abbrev pub tpmuNvPublic2TableIn : List Row
+  tpmuNvPublic2TableIn =
+      own htNvIndex tpmsNvPublicIn
+      ∷ own htExternalNv tpmsNvPublicExpAttrIn
+      ∷ own htPermanentNv tpmsNvPublicIn
+      ∷ e .tpmuNvPublic2
+
+  unfoldable pub tpmuNvPublic2In : ℕ → Layout
+  tpmuNvPublic2In v = unionOf tpmuNvPublic2TableIn v
+
+  -- kind 16, TPMT_NV_PUBLIC_2
+  unfoldable pub tpmtNvPublic2In : Layout
+  tpmtNvPublic2In = number 1 handleTypeIn (λ handleType. tpmuNvPublic2In handleType)
+
+  -- what every ticket has behind its tag: a hierarchy and a digest
+  unfoldable pub ticketBodyIn : Layout
+  ticketBodyIn = number 4 hierarchyIn (λ hierarchy. digest stop)
+
+  -- a ticket whose tag is under that rule, which is the same in every edition
+  abbrev pub ticketIn : Rule → Layout
+  ticketIn r = number 2 r (λ tag. ticketBodyIn)
+
+  -- kind 17, TPMT_TK_CREATION
+  unfoldable pub tpmtTkCreationIn : Layout
+  tpmtTkCreationIn = ticketIn (ticketTag Creation)
+
+  -- kind 18, TPMT_TK_VERIFIED
+  unfoldable pub tpmtTkVerifiedIn : Layout
+  tpmtTkVerifiedIn = ticketIn (ticketTag Verified)
+
+  -- kind 19, TPMT_TK_HASHCHECK
+  unfoldable pub tpmtTkHashcheckIn : Layout
+  tpmtTkHashcheckIn = ticketIn (ticketTag Hashcheck)
+
+  -- kind 20, TPMT_TK_AUTH
+  unfoldable pub tpmtTkAuthIn : Layout
+  tpmtTkAuthIn = ticketIn (ticketTag Auth)
+
   -- ---- by number
 
   -- the kinds of the edition from 1 on
@@ -347,6 +411,7 @@ module _ (e : Edition) where
   kindsIn =
       tpmtHaIn ∷ tpmtSymDefIn ∷ tpmtKdfSchemeIn ∷ tpmtKeyedhashSchemeIn ∷ tpmtSigSchemeIn ∷ tpmtAsymSchemeIn ∷ tpmtAsymSchemeIn ∷ tpmtAsymSchemeIn
       ∷ tpmtPublicParmsIn ∷ tpmtSignatureIn ∷ tpmtPublicIn ∷ tpmtSensitiveIn ∷ tpmsAttestIn ∷ tpmlPcrSelectionIn ∷ tpmsCapabilityDataIn
+      ∷ tpmtNvPublic2In ∷ tpmtTkCreationIn ∷ tpmtTkVerifiedIn ∷ tpmtTkHashcheckIn ∷ tpmtTkAuthIn
       ∷ []
 
   -- the layout of a kind in the edition; no bytes spell a kind that there is not

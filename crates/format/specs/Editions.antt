@@ -12,6 +12,8 @@ pub record Edition : Type 0 where
   pub isCurve : ℕ → Bool
   pub isAttestation : ℕ → Bool
   pub isCap : ℕ → Bool
+  pub isHandleType : ℕ → Bool
+  pub isHierarchy : ℕ → Bool
   pub tpmuHa : List Row
   pub tpmuAsymScheme : List Row
   pub tpmuSigScheme : List Row
@@ -25,6 +27,7 @@ pub record Edition : Type 0 where
   pub tpmuSignature : List Row
   pub tpmuAttest : List Row
   pub tpmuCapabilities : List Row
+  pub tpmuNvPublic2 : List Row
 
 -- our own edition: our lists, and no further rows
 abbrev pub ours : Edition
@@ -34,6 +37,8 @@ ours =
       isCurve = codes.isCurve;
       isAttestation = codes.isAttestation;
       isCap = codes.isCap;
+      isHandleType = codes.isHandleType;
+      isHierarchy = codes.isHierarchy;
       tpmuHa = [];
       tpmuAsymScheme = [];
       tpmuSigScheme = [];
@@ -47,6 +52,7 @@ ours =
       tpmuSignature = [];
       tpmuAttest = [];
       tpmuCapabilities = [];
+      tpmuNvPublic2 = [];
     }
 
 -- an edition extends ours if it lists every code that we list
@@ -55,3 +61,5 @@ pub record Extends (e : Edition) : Type 0 where
   pub curves : (n : ℕ) → codes.isCurve n ≡ true → e .isCurve n ≡ true
   pub attestations : (n : ℕ) → codes.isAttestation n ≡ true → e .isAttestation n ≡ true
   pub caps : (n : ℕ) → codes.isCap n ≡ true → e .isCap n ≡ true
+  pub handleTypes : (n : ℕ) → codes.isHandleType n ≡ true → e .isHandleType n ≡ true
+  pub hierarchies : (n : ℕ) → codes.isHierarchy n ≡ true → e .isHierarchy n ≡ true

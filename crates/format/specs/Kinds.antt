@@ -6,7 +6,7 @@ use lib.ListN.{length, getD}
 use lib.Dec.{leb, ltb}
 use Rattle.faults.specs.Faults.{badKind}
 use Rattle.wire.specs.declared.choice.Choice.{Choice}
-use Rattle.wire.specs.Layout.{Layout, stop, noArm, number, buffer, counted, one, free, _then_}
+use Rattle.wire.specs.Layout.{Rule, Layout, stop, noArm, number, buffer, counted, one, free, _then_}
 use Rattle.wire.specs.Records.{Parsed, refused}
 use Rattle.wire.specs.Reading.{Reader, read}
 use Rattle.wire.specs.Unions.{Row, row, own, armOf, bodyOf, union}
@@ -14,7 +14,8 @@ use Rattle.format.specs.declared.list.ListOf.{ListOf}
 use Rattle.format.specs.declared.list.ListOf.the-variants.{AlgProperty, Handle, Cca, Cc, PcrSelection, TaggedTpmProperty, EccCurve, TaggedPolicy, ActData}
 pub use Rattle.codes.specs.Digests.{digestOf, digestSize, tpmuHaTable}
 unfoldable pub use Rattle.codes.specs.Digests.{tpmuHaArm}
-use Rattle.codes.specs.Codes.{alg, curve, attestation, cap, yesNo, magic, rsa, hmac, aes, mgf1, keyedHash, xor, null, sm4, rsassa, rsaes, rsapss, oaep, ecdsa, ecdh, ecdaa, sm2, ecschnorr, ecmqv, kdf1-sp800-56a, kdf2, kdf1-sp800-108, ecc, symCipher, camellia, attestNv, attestCommandAudit, attestSessionAudit, attestCertify, attestQuote, attestTime, attestCreation, attestNvDigest, capAlgs, capHandles, capCommands, capPpCommands, capAuditCommands, capPcrs, capTpmProperties, capEccCurves, capAuthPolicies, capAct}
+use Rattle.codes.specs.declared.Ticket.the-variants.{Creation, Verified, Hashcheck, Auth}
+use Rattle.codes.specs.Codes.{alg, curve, attestation, cap, handleType, hierarchy, yesNo, magic, ticketTag, rsa, hmac, aes, mgf1, keyedHash, xor, null, sm4, rsassa, rsaes, rsapss, oaep, ecdsa, ecdh, ecdaa, sm2, ecschnorr, ecmqv, kdf1-sp800-56a, kdf2, kdf1-sp800-108, ecc, symCipher, camellia, attestNv, attestCommandAudit, attestSessionAudit, attestCertify, attestQuote, attestTime, attestCreation, attestNvDigest, capAlgs, capHandles, capCommands, capPpCommands, capAuditCommands, capPcrs, capTpmProperties, capEccCurves, capAuthPolicies, capAct, htNvIndex, htExternalNv, htPermanentNv}
 
 -- ---- limits of the buffers, in bytes
 
@@ -513,6 +514,73 @@ tpmuCapabilities v = union (tpmuCapabilitiesArm v) tpmuCapabilitiesBody v
 unfoldable pub tpmsCapabilityData : Layout
 tpmsCapabilityData = number 4 cap (λ capability. tpmuCapabilities capability)
 
+-- ---- where a TPM keeps its own data, and what it has checked: kinds 16 to 20
+
+-- what every NV area ends with: the policy's digest, and the size of the data
+abbrev pub nvPublicTail : Layout
+nvPublicTail = digest (one 2 free)
+
+-- TPMS_NV_PUBLIC
+unfoldable pub tpmsNvPublic : Layout
+tpmsNvPublic =
+    number 4 free (λ nvIndex.
+    number 2 alg (λ nameAlg.
+    number 4 free (λ attributes.
+    nvPublicTail)))
+
+-- TPMS_NV_PUBLIC_EXP_ATTR: the same with attributes of 8 bytes
+unfoldable pub tpmsNvPublicExpAttr : Layout
+tpmsNvPublicExpAttr =
+    number 4 free (λ nvIndex.
+    number 2 alg (λ nameAlg.
+    number 8 free (λ attributes.
+    nvPublicTail)))
+
+-- TPMU_NV_PUBLIC_2: every handle type that is listed has its arm
+abbrev pub tpmuNvPublic2Table : List Row
+tpmuNvPublic2Table =
+    own htNvIndex tpmsNvPublic
+    ∷ own htExternalNv tpmsNvPublicExpAttr
+    ∷ own htPermanentNv tpmsNvPublic
+    ∷ []
+
+unfoldable pub tpmuNvPublic2Arm : ℕ → Choice
+tpmuNvPublic2Arm v = armOf tpmuNvPublic2Table v
+
+abbrev pub tpmuNvPublic2Body : ℕ → Layout
+tpmuNvPublic2Body t = bodyOf tpmuNvPublic2Table t
+
+unfoldable pub tpmuNvPublic2 : ℕ → Layout
+tpmuNvPublic2 v = union (tpmuNvPublic2Arm v) tpmuNvPublic2Body v
+
+-- kind 16, TPMT_NV_PUBLIC_2
+unfoldable pub tpmtNvPublic2 : Layout
+tpmtNvPublic2 = number 1 handleType (λ handleType. tpmuNvPublic2 handleType)
+
+-- what every ticket has behind its tag: a hierarchy and a digest
+unfoldable pub ticketBody : Layout
+ticketBody = number 4 hierarchy (λ hierarchy. digest stop)
+
+-- a ticket whose tag is under that rule
+abbrev pub ticket : Rule → Layout
+ticket r = number 2 r (λ tag. ticketBody)
+
+-- kind 17, TPMT_TK_CREATION
+unfoldable pub tpmtTkCreation : Layout
+tpmtTkCreation = ticket (ticketTag Creation)
+
+-- kind 18, TPMT_TK_VERIFIED
+unfoldable pub tpmtTkVerified : Layout
+tpmtTkVerified = ticket (ticketTag Verified)
+
+-- kind 19, TPMT_TK_HASHCHECK
+unfoldable pub tpmtTkHashcheck : Layout
+tpmtTkHashcheck = ticket (ticketTag Hashcheck)
+
+-- kind 20, TPMT_TK_AUTH
+unfoldable pub tpmtTkAuth : Layout
+tpmtTkAuth = ticket (ticketTag Auth)
+
 -- ---- by number
 
 -- the kinds from 1 on; 0 is none
@@ -520,6 +588,7 @@ unfoldable pub kinds : List Layout
 kinds =
     tpmtHa ∷ tpmtSymDef ∷ tpmtKdfScheme ∷ tpmtKeyedhashScheme ∷ tpmtSigScheme ∷ tpmtAsymScheme ∷ tpmtAsymScheme ∷ tpmtAsymScheme
     ∷ tpmtPublicParms ∷ tpmtSignature ∷ tpmtPublic ∷ tpmtSensitive ∷ tpmsAttest ∷ tpmlPcrSelection ∷ tpmsCapabilityData
+    ∷ tpmtNvPublic2 ∷ tpmtTkCreation ∷ tpmtTkVerified ∷ tpmtTkHashcheck ∷ tpmtTkAuth
     ∷ []
 
 -- the numbers of the kinds

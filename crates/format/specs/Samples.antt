@@ -3,9 +3,9 @@ use Prim.Native.Nat.{ℕ}
 use mathlib.Core.Path.{_≡_}
 use mathlib.Core.List.{List, [], _∷_, _++_}
 use lib.ListN.{length, drop}
-use Rattle.faults.specs.Faults.{short, unknownCode, noSuchArm, tooLong, tooManyItems}
+use Rattle.faults.specs.Faults.{short, unknownCode, noSuchArm, tooLong, tooManyItems, badValue, badKind}
 use Rattle.wire.specs.Records.{Part, num, tag, span, Ans, found, refused, next}
-use Rattle.codes.specs.Codes.{null, aes, rsaes, ecc, sha1, capAlgs, capEccCurves, capAuthPolicies}
+use Rattle.codes.specs.Codes.{null, aes, rsaes, ecc, sha1, capAlgs, capEccCurves, capAuthPolicies, htNvIndex, htExternalNv, rhOwner, rhNull, rhEndorsement, rhPlatform, stCreation, stVerified, stHashcheck, stAuthSigned}
 use Rattle.format.specs.Kinds.{digestOf, readKind}
 
 -- what was read of some bytes: the record's parts, how many bytes it consumed, and its tail
@@ -85,4 +85,19 @@ samples =
     ∷ sample 15 (0x00 ∷ 0x00 ∷ 0x00 ∷ 0x01 ∷ 0x00 ∷ 0x00 ∷ 0x00 ∷ 0x80 ∷ []) (refused (short 8 4 0))
     ∷ sample 15 (0x00 ∷ 0x00 ∷ 0x00 ∷ 0x05 ∷ 0x00 ∷ 0x00 ∷ 0x00 ∷ 0x01 ∷ 0x00 ∷ 0x0B ∷ 0x05 ∷ []) (refused (tooLong 10 5))
     ∷ sample 15 (0x00 ∷ 0x00 ∷ 0x00 ∷ 0x08 ∷ 0x00 ∷ 0x00 ∷ 0x00 ∷ 0x01 ∷ 0x00 ∷ 0x06 ∷ []) (refused (unknownCode 8 6))
+    ∷ sample 16 (0x01 ∷ 0x01 ∷ 0x80 ∷ 0x00 ∷ 0x01 ∷ 0x00 ∷ 0x0B ∷ 0x00 ∷ 0x00 ∷ 0x00 ∷ 0x04 ∷ 0x00 ∷ 0x00 ∷ 0x00 ∷ 0x08 ∷ []) (consumed (num htNvIndex ∷ tag htNvIndex ∷ num 25165825 ∷ num 0x0B ∷ num 4 ∷ span 13 0 ∷ num 8 ∷ []) 15 [])
+    ∷ sample 16 (0x11 ∷ 0x01 ∷ 0x80 ∷ 0x00 ∷ 0x01 ∷ 0x00 ∷ 0x0B ∷ 0x00 ∷ 0x00 ∷ 0x00 ∷ 0x01 ∷ 0x00 ∷ 0x00 ∷ 0x00 ∷ 0x04 ∷ 0x00 ∷ 0x00 ∷ 0x00 ∷ 0x08 ∷ []) (consumed (num htExternalNv ∷ tag htExternalNv ∷ num 25165825 ∷ num 0x0B ∷ num 4294967300 ∷ span 17 0 ∷ num 8 ∷ []) 19 [])
+    ∷ sample 16 [] (refused (short 0 1 0))
+    ∷ sample 16 (0x02 ∷ []) (refused (unknownCode 0 2))
+    ∷ sample 16 (0x11 ∷ 0x01 ∷ 0x80 ∷ 0x00 ∷ 0x01 ∷ 0x00 ∷ 0x0B ∷ 0x00 ∷ 0x00 ∷ 0x00 ∷ 0x04 ∷ []) (refused (short 7 8 4))
+    ∷ sample 16 (0x01 ∷ 0x01 ∷ 0x80 ∷ 0x00 ∷ 0x01 ∷ 0x00 ∷ 0x0B ∷ 0x00 ∷ 0x00 ∷ 0x00 ∷ 0x04 ∷ 0x00 ∷ 0x41 ∷ []) (refused (tooLong 11 65))
+    ∷ sample 17 (0x80 ∷ 0x21 ∷ 0x40 ∷ 0x00 ∷ 0x00 ∷ 0x01 ∷ 0x00 ∷ 0x00 ∷ []) (consumed (num stCreation ∷ num rhOwner ∷ span 8 0 ∷ []) 8 [])
+    ∷ sample 17 (0x80 ∷ 0x22 ∷ 0x40 ∷ 0x00 ∷ 0x00 ∷ 0x01 ∷ 0x00 ∷ 0x00 ∷ []) (refused (badValue 0 32802))
+    ∷ sample 17 (0x80 ∷ 0x21 ∷ 0x40 ∷ 0x00 ∷ 0x00 ∷ 0x02 ∷ 0x00 ∷ 0x00 ∷ []) (refused (unknownCode 2 1073741826))
+    ∷ sample 18 (0x80 ∷ 0x22 ∷ 0x40 ∷ 0x00 ∷ 0x00 ∷ 0x0B ∷ 0x00 ∷ 0x00 ∷ []) (consumed (num stVerified ∷ num rhEndorsement ∷ span 8 0 ∷ []) 8 [])
+    ∷ sample 19 (0x80 ∷ 0x24 ∷ 0x40 ∷ 0x00 ∷ 0x00 ∷ 0x07 ∷ 0x00 ∷ 0x00 ∷ []) (consumed (num stHashcheck ∷ num rhNull ∷ span 8 0 ∷ []) 8 [])
+    ∷ sample 19 (0x80 ∷ 0x22 ∷ 0x40 ∷ 0x00 ∷ 0x00 ∷ 0x01 ∷ 0x00 ∷ 0x00 ∷ []) (refused (badValue 0 32802))
+    ∷ sample 20 (0x80 ∷ 0x25 ∷ 0x40 ∷ 0x00 ∷ 0x00 ∷ 0x0C ∷ 0x00 ∷ 0x01 ∷ 0xAA ∷ []) (consumed (num stAuthSigned ∷ num rhPlatform ∷ span 8 1 ∷ []) 9 [])
+    ∷ sample 20 (0x80 ∷ 0x24 ∷ 0x40 ∷ 0x00 ∷ 0x00 ∷ 0x07 ∷ 0x00 ∷ 0x00 ∷ []) (refused (badValue 0 32804))
+    ∷ sample 21 [] (refused (badKind 21))
     ∷ []

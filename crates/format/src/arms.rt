@@ -3,11 +3,12 @@
 use codes::DigestLen;
 use codes::TpmAlgId;
 use codes::TpmCap;
+use codes::TpmHt;
 use codes::TpmSt;
 use codes::registry;
 use wire::choice::Choice;
 ghost use mathlib.Core.Path.{_≡_};
-ghost use Rattle.format.specs.Kinds.{tpmuHaArm, tpmuAsymSchemeArm, tpmuSigSchemeArm, tpmuKeyedhashSchemeArm, tpmuKdfSchemeArm, tpmuSymKeyBitsArm, tpmuSymModeArm, tpmuPublicParmsArm, tpmuPublicIdArm, tpmuSensitiveCompositeArm, tpmuSignatureArm, tpmuAttestArm, tpmuCapabilitiesArm};
+ghost use Rattle.format.specs.Kinds.{tpmuHaArm, tpmuAsymSchemeArm, tpmuSigSchemeArm, tpmuKeyedhashSchemeArm, tpmuKdfSchemeArm, tpmuSymKeyBitsArm, tpmuSymModeArm, tpmuPublicParmsArm, tpmuPublicIdArm, tpmuSensitiveCompositeArm, tpmuSignatureArm, tpmuAttestArm, tpmuCapabilitiesArm, tpmuNvPublic2Arm};
 
 // The arm of a hash code that several schemes choose.
 pub const HASH: u16 = 1;
@@ -176,4 +177,15 @@ pub fn capabilities_arm(tag: TpmCap) -> Choice
         }
     }
     Choice::Nothing
+}
+
+pub fn nv_public2_arm(tag: TpmHt) -> Choice
+    ensures { λ r. ⌜ r ≡ tpmuNvPublic2Arm (tag .0) ⌝ }
+{
+    let t = tag.0;
+    if tag.is_listed() {
+        Choice::The(t as u16)
+    } else {
+        Choice::Nothing
+    }
 }

@@ -2,7 +2,7 @@
 ghost use mathlib.Core.Path.{_≡_};
 ghost use Rattle.format.specs.Kinds.{isKind};
 
-const LAST_KIND: u8 = 15;
+const LAST_KIND: u8 = 20;
 
 // Whether there is a kind of that number.
 pub fn is_kind(kind: u8) -> bool

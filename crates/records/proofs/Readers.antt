@@ -30,7 +30,7 @@ use Rattle.wire.proofs.Answers.{measure-answer-once}
 use Rattle.wire.proofs.Whole.{whole-is-read}
 use Rattle.wire.proofs.WholeExactly as whole
 use Rattle.wire.proofs.Unions.{chosen-is}
-use Rattle.format.specs.Kinds.{tpmtHa, tpmtSymDef, tpmtKdfScheme, tpmtKeyedhashScheme, tpmtSigScheme, tpmtAsymScheme, tpmtPublicParms, tpmtSignature, tpmtPublic, tpmtSensitive, tpmsAttest, tpmlPcrSelection, tpmsCapabilityData, kinds, isKind, layoutOf, readKind}
+use Rattle.format.specs.Kinds.{tpmtHa, tpmtSymDef, tpmtKdfScheme, tpmtKeyedhashScheme, tpmtSigScheme, tpmtAsymScheme, tpmtPublicParms, tpmtSignature, tpmtPublic, tpmtSensitive, tpmsAttest, tpmlPcrSelection, tpmsCapabilityData, tpmtNvPublic2, tpmtTkCreation, tpmtTkVerified, tpmtTkHashcheck, tpmtTkAuth, kinds, isKind, layoutOf, readKind}
 use Rattle.format.proofs.Numbered.{no-kind}
 use Rattle.records.proofs.Promises as promises
 
@@ -43,8 +43,9 @@ pub kind-layouts :
     × (layoutOf 6 ≡ tpmtAsymScheme) × (layoutOf 7 ≡ tpmtAsymScheme) × (layoutOf 8 ≡ tpmtAsymScheme)
     × (layoutOf 9 ≡ tpmtPublicParms) × (layoutOf 10 ≡ tpmtSignature) × (layoutOf 11 ≡ tpmtPublic) × (layoutOf 12 ≡ tpmtSensitive)
     × (layoutOf 13 ≡ tpmsAttest) × (layoutOf 14 ≡ tpmlPcrSelection) × (layoutOf 15 ≡ tpmsCapabilityData)
+    × (layoutOf 16 ≡ tpmtNvPublic2) × (layoutOf 17 ≡ tpmtTkCreation) × (layoutOf 18 ≡ tpmtTkVerified) × (layoutOf 19 ≡ tpmtTkHashcheck) × (layoutOf 20 ≡ tpmtTkAuth)
 unfolding layoutOf kinds
-kind-layouts = (refl, refl, refl, refl, refl, refl, refl, refl, refl, refl, refl, refl, refl, refl, refl, refl)
+kind-layouts = (refl, refl, refl, refl, refl, refl, refl, refl, refl, refl, refl, refl, refl, refl, refl, refl, refl, refl, refl, refl, refl)
 
 -- what a reader of the layout ensures is what a reader of the kind ensures
 pub read-by-number : {l : Layout} {a : Ans Parsed} (k : ℕ) (src : List ℕ) (at : ℕ) → layoutOf k ≡ l → a ≡ read l src at → a ≡ read (layoutOf k) src at

@@ -1,5 +1,15 @@
 // A record read by its type's own call, with what the answer means in the grammar's words: `.._read` as a prefix, by `unmarshal`, and
 // `.._read_whole`, with nothing after it, by `whole`.
+use areas::tpmt::TpmtNvPublic2;
+use areas::tpmt::TpmtNvPublic2Read;
+use areas::tpmt::TpmtTkAuth;
+use areas::tpmt::TpmtTkAuthRead;
+use areas::tpmt::TpmtTkCreation;
+use areas::tpmt::TpmtTkCreationRead;
+use areas::tpmt::TpmtTkHashcheck;
+use areas::tpmt::TpmtTkHashcheckRead;
+use areas::tpmt::TpmtTkVerified;
+use areas::tpmt::TpmtTkVerifiedRead;
 use attest::attestation::TpmsAttest;
 use attest::attestation::TpmsAttestRead;
 use attest::list::TpmlPcrSelection;
@@ -30,7 +40,7 @@ use sensitive::tpmt::TpmtSensitive;
 use sensitive::tpmt::TpmtSensitiveRead;
 use signatures::tpmt::TpmtSignature;
 use signatures::tpmt::TpmtSignatureRead;
-ghost use Rattle.format.specs.Kinds.{tpmtHa, tpmtSymDef, tpmtKdfScheme, tpmtKeyedhashScheme, tpmtSigScheme, tpmtAsymScheme, tpmtPublicParms, tpmtSignature, tpmtPublic, tpmtSensitive, tpmsAttest, tpmlPcrSelection, tpmsCapabilityData};
+ghost use Rattle.format.specs.Kinds.{tpmtHa, tpmtSymDef, tpmtKdfScheme, tpmtKeyedhashScheme, tpmtSigScheme, tpmtAsymScheme, tpmtPublicParms, tpmtSignature, tpmtPublic, tpmtSensitive, tpmsAttest, tpmlPcrSelection, tpmsCapabilityData, tpmtNvPublic2, tpmtTkCreation, tpmtTkVerified, tpmtTkHashcheck, tpmtTkAuth};
 ghost use Rattle.ciphers.specs.Answers.{tpmtHaAnswer, tpmtSymDefAnswer};
 ghost use Rattle.schemes.specs.Answers.{tpmtKdfSchemeAnswer, tpmtKeyedhashSchemeAnswer, tpmtSigSchemeAnswer, tpmtRsaSchemeAnswer, tpmtEccSchemeAnswer, tpmtRsaDecryptAnswer};
 ghost use Rattle.parameters.specs.Answers.{tpmtPublicParmsAnswer};
@@ -39,6 +49,7 @@ ghost use Rattle.keys.specs.Answers.{tpmtPublicAnswer};
 ghost use Rattle.sensitive.specs.Answers.{tpmtSensitiveAnswer};
 ghost use Rattle.attest.specs.Answers.{tpmsAttestAnswer, tpmlPcrSelectionAnswer};
 ghost use Rattle.capabilities.specs.Answers.{tpmsCapabilityDataAnswer};
+ghost use Rattle.areas.specs.Answers.{tpmtNvPublic2Answer, tpmtTkCreationAnswer, tpmtTkVerifiedAnswer, tpmtTkHashcheckAnswer, tpmtTkAuthAnswer};
 ghost use Rattle.records.specs.Reads.{Reads, ReadsWhole};
 
 pub fn tpmt_ha_read(s: &[u8], at: usize) -> TpmtHaRead
@@ -219,4 +230,64 @@ pub fn tpms_capability_data_read_whole(s: &[u8], at: usize) -> TpmsCapabilityDat
     ensures { λ r. ⌜ ReadsWhole tpmsCapabilityData (now (s .entry)) at (tpmsCapabilityDataAnswer r) ⌝ }
 {
     TpmsCapabilityData::whole(s, at)
+}
+
+pub fn tpmt_nv_public2_read(s: &[u8], at: usize) -> TpmtNvPublic2Read
+    ensures { λ r. ⌜ Reads tpmtNvPublic2 (now (s .entry)) at (tpmtNvPublic2Answer r) ⌝ }
+{
+    TpmtNvPublic2::unmarshal(s, at)
+}
+
+pub fn tpmt_nv_public2_read_whole(s: &[u8], at: usize) -> TpmtNvPublic2Read
+    ensures { λ r. ⌜ ReadsWhole tpmtNvPublic2 (now (s .entry)) at (tpmtNvPublic2Answer r) ⌝ }
+{
+    TpmtNvPublic2::whole(s, at)
+}
+
+pub fn tpmt_tk_creation_read(s: &[u8], at: usize) -> TpmtTkCreationRead
+    ensures { λ r. ⌜ Reads tpmtTkCreation (now (s .entry)) at (tpmtTkCreationAnswer r) ⌝ }
+{
+    TpmtTkCreation::unmarshal(s, at)
+}
+
+pub fn tpmt_tk_creation_read_whole(s: &[u8], at: usize) -> TpmtTkCreationRead
+    ensures { λ r. ⌜ ReadsWhole tpmtTkCreation (now (s .entry)) at (tpmtTkCreationAnswer r) ⌝ }
+{
+    TpmtTkCreation::whole(s, at)
+}
+
+pub fn tpmt_tk_verified_read(s: &[u8], at: usize) -> TpmtTkVerifiedRead
+    ensures { λ r. ⌜ Reads tpmtTkVerified (now (s .entry)) at (tpmtTkVerifiedAnswer r) ⌝ }
+{
+    TpmtTkVerified::unmarshal(s, at)
+}
+
+pub fn tpmt_tk_verified_read_whole(s: &[u8], at: usize) -> TpmtTkVerifiedRead
+    ensures { λ r. ⌜ ReadsWhole tpmtTkVerified (now (s .entry)) at (tpmtTkVerifiedAnswer r) ⌝ }
+{
+    TpmtTkVerified::whole(s, at)
+}
+
+pub fn tpmt_tk_hashcheck_read(s: &[u8], at: usize) -> TpmtTkHashcheckRead
+    ensures { λ r. ⌜ Reads tpmtTkHashcheck (now (s .entry)) at (tpmtTkHashcheckAnswer r) ⌝ }
+{
+    TpmtTkHashcheck::unmarshal(s, at)
+}
+
+pub fn tpmt_tk_hashcheck_read_whole(s: &[u8], at: usize) -> TpmtTkHashcheckRead
+    ensures { λ r. ⌜ ReadsWhole tpmtTkHashcheck (now (s .entry)) at (tpmtTkHashcheckAnswer r) ⌝ }
+{
+    TpmtTkHashcheck::whole(s, at)
+}
+
+pub fn tpmt_tk_auth_read(s: &[u8], at: usize) -> TpmtTkAuthRead
+    ensures { λ r. ⌜ Reads tpmtTkAuth (now (s .entry)) at (tpmtTkAuthAnswer r) ⌝ }
+{
+    TpmtTkAuth::unmarshal(s, at)
+}
+
+pub fn tpmt_tk_auth_read_whole(s: &[u8], at: usize) -> TpmtTkAuthRead
+    ensures { λ r. ⌜ ReadsWhole tpmtTkAuth (now (s .entry)) at (tpmtTkAuthAnswer r) ⌝ }
+{
+    TpmtTkAuth::whole(s, at)
 }

@@ -6,6 +6,7 @@ use crate::back::tpmt_ecc_scheme_back;
 use crate::back::tpmt_ha_back;
 use crate::back::tpmt_kdf_scheme_back;
 use crate::back::tpmt_keyedhash_scheme_back;
+use crate::back::tpmt_nv_public2_back;
 use crate::back::tpmt_public_back;
 use crate::back::tpmt_public_parms_back;
 use crate::back::tpmt_rsa_decrypt_back;
@@ -14,6 +15,20 @@ use crate::back::tpmt_sensitive_back;
 use crate::back::tpmt_sig_scheme_back;
 use crate::back::tpmt_signature_back;
 use crate::back::tpmt_sym_def_back;
+use crate::back::tpmt_tk_auth_back;
+use crate::back::tpmt_tk_creation_back;
+use crate::back::tpmt_tk_hashcheck_back;
+use crate::back::tpmt_tk_verified_back;
+use areas::tpmt::TpmtNvPublic2;
+use areas::tpmt::TpmtNvPublic2Read;
+use areas::tpmt::TpmtTkAuth;
+use areas::tpmt::TpmtTkAuthRead;
+use areas::tpmt::TpmtTkCreation;
+use areas::tpmt::TpmtTkCreationRead;
+use areas::tpmt::TpmtTkHashcheck;
+use areas::tpmt::TpmtTkHashcheckRead;
+use areas::tpmt::TpmtTkVerified;
+use areas::tpmt::TpmtTkVerifiedRead;
 use attest::attestation::TpmsAttest;
 use attest::attestation::TpmsAttestRead;
 use attest::list::TpmlPcrSelection;
@@ -48,7 +63,7 @@ use signatures::tpmt::TpmtSignatureRead;
 use wire::measure::Measure;
 use wire::widen::wide_byte;
 ghost use Rattle.wire.specs.Reading.{read};
-ghost use Rattle.format.specs.Kinds.{tpmtHa, tpmtSymDef, tpmtKdfScheme, tpmtKeyedhashScheme, tpmtSigScheme, tpmtAsymScheme, tpmtPublicParms, tpmtSignature, tpmtPublic, tpmtSensitive, tpmsAttest, tpmlPcrSelection, tpmsCapabilityData, readKind};
+ghost use Rattle.format.specs.Kinds.{tpmtHa, tpmtSymDef, tpmtKdfScheme, tpmtKeyedhashScheme, tpmtSigScheme, tpmtAsymScheme, tpmtPublicParms, tpmtSignature, tpmtPublic, tpmtSensitive, tpmsAttest, tpmlPcrSelection, tpmsCapabilityData, tpmtNvPublic2, tpmtTkCreation, tpmtTkVerified, tpmtTkHashcheck, tpmtTkAuth, readKind};
 ghost use Rattle.roundtrip.specs.Roundtrip.{Rewrites, Again};
 
 fn tpmt_ha_again(s: &[u8], out: &mut [u8]) -> Measure
@@ -231,6 +246,66 @@ fn tpms_capability_data_again(s: &[u8], out: &mut [u8]) -> Measure
     }
 }
 
+fn tpmt_nv_public2_again(s: &[u8], out: &mut [u8]) -> Measure
+    ensures { λ r. ⌜ Rewrites (read tpmtNvPublic2 (now (s .entry)) 0) (now (s .entry)) (now (out .entry)) r (now (out .exit)) ⌝ }
+{
+    match TpmtNvPublic2::unmarshal(s, 0) {
+        TpmtNvPublic2Read::Found(x, _) => match tpmt_nv_public2_back(x, s, out) {
+            TpmtNvPublic2Read::Found(_, e) => Measure::Size(e),
+            TpmtNvPublic2Read::No(f) => Measure::No(f),
+        },
+        TpmtNvPublic2Read::No(f) => Measure::No(f),
+    }
+}
+
+fn tpmt_tk_creation_again(s: &[u8], out: &mut [u8]) -> Measure
+    ensures { λ r. ⌜ Rewrites (read tpmtTkCreation (now (s .entry)) 0) (now (s .entry)) (now (out .entry)) r (now (out .exit)) ⌝ }
+{
+    match TpmtTkCreation::unmarshal(s, 0) {
+        TpmtTkCreationRead::Found(x, _) => match tpmt_tk_creation_back(x, s, out) {
+            TpmtTkCreationRead::Found(_, e) => Measure::Size(e),
+            TpmtTkCreationRead::No(f) => Measure::No(f),
+        },
+        TpmtTkCreationRead::No(f) => Measure::No(f),
+    }
+}
+
+fn tpmt_tk_verified_again(s: &[u8], out: &mut [u8]) -> Measure
+    ensures { λ r. ⌜ Rewrites (read tpmtTkVerified (now (s .entry)) 0) (now (s .entry)) (now (out .entry)) r (now (out .exit)) ⌝ }
+{
+    match TpmtTkVerified::unmarshal(s, 0) {
+        TpmtTkVerifiedRead::Found(x, _) => match tpmt_tk_verified_back(x, s, out) {
+            TpmtTkVerifiedRead::Found(_, e) => Measure::Size(e),
+            TpmtTkVerifiedRead::No(f) => Measure::No(f),
+        },
+        TpmtTkVerifiedRead::No(f) => Measure::No(f),
+    }
+}
+
+fn tpmt_tk_hashcheck_again(s: &[u8], out: &mut [u8]) -> Measure
+    ensures { λ r. ⌜ Rewrites (read tpmtTkHashcheck (now (s .entry)) 0) (now (s .entry)) (now (out .entry)) r (now (out .exit)) ⌝ }
+{
+    match TpmtTkHashcheck::unmarshal(s, 0) {
+        TpmtTkHashcheckRead::Found(x, _) => match tpmt_tk_hashcheck_back(x, s, out) {
+            TpmtTkHashcheckRead::Found(_, e) => Measure::Size(e),
+            TpmtTkHashcheckRead::No(f) => Measure::No(f),
+        },
+        TpmtTkHashcheckRead::No(f) => Measure::No(f),
+    }
+}
+
+fn tpmt_tk_auth_again(s: &[u8], out: &mut [u8]) -> Measure
+    ensures { λ r. ⌜ Rewrites (read tpmtTkAuth (now (s .entry)) 0) (now (s .entry)) (now (out .entry)) r (now (out .exit)) ⌝ }
+{
+    match TpmtTkAuth::unmarshal(s, 0) {
+        TpmtTkAuthRead::Found(x, _) => match tpmt_tk_auth_back(x, s, out) {
+            TpmtTkAuthRead::Found(_, e) => Measure::Size(e),
+            TpmtTkAuthRead::No(f) => Measure::No(f),
+        },
+        TpmtTkAuthRead::No(f) => Measure::No(f),
+    }
+}
+
 // By the calls of the kind's type. A number that is no kind is refused first.
 fn again_by_kind(kind: u8, s: &[u8], out: &mut [u8]) -> Measure
     ensures { λ r. ⌜ Rewrites (readKind kind (now (s .entry)) 0) (now (s .entry)) (now (out .entry)) r (now (out .exit)) ⌝ }
@@ -251,6 +326,11 @@ fn again_by_kind(kind: u8, s: &[u8], out: &mut [u8]) -> Measure
         13 => tpms_attest_again(s, out),
         14 => tpml_pcr_selection_again(s, out),
         15 => tpms_capability_data_again(s, out),
+        16 => tpmt_nv_public2_again(s, out),
+        17 => tpmt_tk_creation_again(s, out),
+        18 => tpmt_tk_verified_again(s, out),
+        19 => tpmt_tk_hashcheck_again(s, out),
+        20 => tpmt_tk_auth_again(s, out),
         _ => Measure::No(Refusal::bad_kind(wide_byte(kind))),
     }
 }

@@ -1,6 +1,16 @@
 // A record written into a lent slice and read again from there, by the calls of its type: it is measured, `marshal` is lent just as many
 // bytes, and what it puts, `unmarshal` finds, with equal fields and shown bytes. Where it may not be written, or there is no room for it,
 // that is answered and the slice is as it was.
+use areas::tpmt::TpmtNvPublic2;
+use areas::tpmt::TpmtNvPublic2Read;
+use areas::tpmt::TpmtTkAuth;
+use areas::tpmt::TpmtTkAuthRead;
+use areas::tpmt::TpmtTkCreation;
+use areas::tpmt::TpmtTkCreationRead;
+use areas::tpmt::TpmtTkHashcheck;
+use areas::tpmt::TpmtTkHashcheckRead;
+use areas::tpmt::TpmtTkVerified;
+use areas::tpmt::TpmtTkVerifiedRead;
 use attest::attestation::TpmsAttest;
 use attest::attestation::TpmsAttestRead;
 use attest::list::TpmlPcrSelection;
@@ -32,7 +42,7 @@ use sensitive::tpmt::TpmtSensitiveRead;
 use signatures::tpmt::TpmtSignature;
 use signatures::tpmt::TpmtSignatureRead;
 use wire::measure::Measure;
-ghost use Rattle.format.specs.Kinds.{tpmtHa, tpmtSymDef, tpmtKdfScheme, tpmtKeyedhashScheme, tpmtSigScheme, tpmtAsymScheme, tpmtPublicParms, tpmtSignature, tpmtPublic, tpmtSensitive, tpmsAttest, tpmlPcrSelection, tpmsCapabilityData};
+ghost use Rattle.format.specs.Kinds.{tpmtHa, tpmtSymDef, tpmtKdfScheme, tpmtKeyedhashScheme, tpmtSigScheme, tpmtAsymScheme, tpmtPublicParms, tpmtSignature, tpmtPublic, tpmtSensitive, tpmsAttest, tpmlPcrSelection, tpmsCapabilityData, tpmtNvPublic2, tpmtTkCreation, tpmtTkVerified, tpmtTkHashcheck, tpmtTkAuth};
 ghost use Rattle.ciphers.specs.Parts.{tpmtHaParts, tpmtSymDefParts};
 ghost use Rattle.ciphers.specs.Answers.{tpmtHaAnswer, tpmtSymDefAnswer};
 ghost use Rattle.schemes.specs.Parts.{tpmtKdfSchemeParts, tpmtKeyedhashSchemeParts, tpmtSigSchemeParts, tpmtRsaSchemeParts, tpmtEccSchemeParts, tpmtRsaDecryptParts};
@@ -47,8 +57,10 @@ ghost use Rattle.sensitive.specs.Parts.{tpmtSensitiveParts};
 ghost use Rattle.sensitive.specs.Answers.{tpmtSensitiveAnswer};
 ghost use Rattle.attest.specs.Parts.{tpmsAttestParts, tpmlPcrSelectionParts};
 ghost use Rattle.capabilities.specs.Parts.{tpmsCapabilityDataParts};
+ghost use Rattle.areas.specs.Parts.{tpmtNvPublic2Parts, tpmtTkCreationParts, tpmtTkVerifiedParts, tpmtTkHashcheckParts, tpmtTkAuthParts};
 ghost use Rattle.attest.specs.Answers.{tpmsAttestAnswer, tpmlPcrSelectionAnswer};
 ghost use Rattle.capabilities.specs.Answers.{tpmsCapabilityDataAnswer};
+ghost use Rattle.areas.specs.Answers.{tpmtNvPublic2Answer, tpmtTkCreationAnswer, tpmtTkVerifiedAnswer, tpmtTkHashcheckAnswer, tpmtTkAuthAnswer};
 ghost use Rattle.roundtrip.specs.Roundtrip.{ReadsBack};
 
 pub fn tpmt_ha_back(x: TpmtHa, src: &[u8], out: &mut [u8]) -> TpmtHaRead
@@ -210,5 +222,55 @@ pub fn tpms_capability_data_back(
     match x.marshal(src, &mut out[..room]) {
         Measure::Size(_) => TpmsCapabilityData::unmarshal(out, 0),
         Measure::No(f) => TpmsCapabilityDataRead::No(f),
+    }
+}
+
+pub fn tpmt_nv_public2_back(x: TpmtNvPublic2, src: &[u8], out: &mut [u8]) -> TpmtNvPublic2Read
+    ensures { λ r. ⌜ ReadsBack tpmtNvPublic2 (tpmtNvPublic2Parts x) (now (src .entry)) (now (out .entry)) (tpmtNvPublic2Answer r) (now (out .exit)) ⌝ }
+{
+    let room = x.measure(src).lend(out.len());
+    match x.marshal(src, &mut out[..room]) {
+        Measure::Size(_) => TpmtNvPublic2::unmarshal(out, 0),
+        Measure::No(f) => TpmtNvPublic2Read::No(f),
+    }
+}
+
+pub fn tpmt_tk_creation_back(x: TpmtTkCreation, src: &[u8], out: &mut [u8]) -> TpmtTkCreationRead
+    ensures { λ r. ⌜ ReadsBack tpmtTkCreation (tpmtTkCreationParts x) (now (src .entry)) (now (out .entry)) (tpmtTkCreationAnswer r) (now (out .exit)) ⌝ }
+{
+    let room = x.measure(src).lend(out.len());
+    match x.marshal(src, &mut out[..room]) {
+        Measure::Size(_) => TpmtTkCreation::unmarshal(out, 0),
+        Measure::No(f) => TpmtTkCreationRead::No(f),
+    }
+}
+
+pub fn tpmt_tk_verified_back(x: TpmtTkVerified, src: &[u8], out: &mut [u8]) -> TpmtTkVerifiedRead
+    ensures { λ r. ⌜ ReadsBack tpmtTkVerified (tpmtTkVerifiedParts x) (now (src .entry)) (now (out .entry)) (tpmtTkVerifiedAnswer r) (now (out .exit)) ⌝ }
+{
+    let room = x.measure(src).lend(out.len());
+    match x.marshal(src, &mut out[..room]) {
+        Measure::Size(_) => TpmtTkVerified::unmarshal(out, 0),
+        Measure::No(f) => TpmtTkVerifiedRead::No(f),
+    }
+}
+
+pub fn tpmt_tk_hashcheck_back(x: TpmtTkHashcheck, src: &[u8], out: &mut [u8]) -> TpmtTkHashcheckRead
+    ensures { λ r. ⌜ ReadsBack tpmtTkHashcheck (tpmtTkHashcheckParts x) (now (src .entry)) (now (out .entry)) (tpmtTkHashcheckAnswer r) (now (out .exit)) ⌝ }
+{
+    let room = x.measure(src).lend(out.len());
+    match x.marshal(src, &mut out[..room]) {
+        Measure::Size(_) => TpmtTkHashcheck::unmarshal(out, 0),
+        Measure::No(f) => TpmtTkHashcheckRead::No(f),
+    }
+}
+
+pub fn tpmt_tk_auth_back(x: TpmtTkAuth, src: &[u8], out: &mut [u8]) -> TpmtTkAuthRead
+    ensures { λ r. ⌜ ReadsBack tpmtTkAuth (tpmtTkAuthParts x) (now (src .entry)) (now (out .entry)) (tpmtTkAuthAnswer r) (now (out .exit)) ⌝ }
+{
+    let room = x.measure(src).lend(out.len());
+    match x.marshal(src, &mut out[..room]) {
+        Measure::Size(_) => TpmtTkAuth::unmarshal(out, 0),
+        Measure::No(f) => TpmtTkAuthRead::No(f),
     }
 }

@@ -6,9 +6,12 @@ use crate::walk::Walk;
 use crate::walk::judging;
 use crate::walk::putting;
 use crate::walk::refusing;
+use codes::Ticket;
 use codes::TpmAlgId;
 use codes::TpmCap;
 use codes::TpmEccCurve;
+use codes::TpmHt;
+use codes::TpmRh;
 use codes::TpmSt;
 use faults::Refusal;
 use puts::write::put_number;
@@ -27,7 +30,7 @@ ghost use Rattle.wire.specs.Answers.{widthOf};
 ghost use Rattle.wire.specs.Bytes.{digits};
 ghost use Rattle.wire.specs.Layout.{free};
 ghost use Rattle.wire.specs.Records.{found};
-ghost use Rattle.codes.specs.Codes.{alg, curve, attestation, cap, yesNo, magic};
+ghost use Rattle.codes.specs.Codes.{alg, curve, attestation, cap, handleType, hierarchy, yesNo, magic, ticketTag};
 ghost use Rattle.steps.specs.Walks.{here, judging, refusing, Moves, putOne, numberWalk, Numbers, Dues};
 
 fn byte(n: u8) -> u64
@@ -174,6 +177,58 @@ impl Walk {
         )
     }
 
+    pub fn handle_type(self, t: TpmHt, out: &mut [u8]) -> Walk
+        ensures { λ r. ⌜ Numbers One handleType (t .0) (here self (now (out .entry))) (here r (now (out .exit))) ⌝ }
+    {
+        let n = byte(t.0);
+        if self.mode == PUT {
+            return self.put(Width::One, n, out);
+        }
+        self.aside(
+            t.is_listed(),
+            Word::Code,
+            Width::One,
+            n,
+            Refusal::unknown_code(self.at, n),
+            out,
+        )
+    }
+
+    pub fn hierarchy(self, h: TpmRh, out: &mut [u8]) -> Walk
+        ensures { λ r. ⌜ Numbers Four hierarchy (h .0) (here self (now (out .entry))) (here r (now (out .exit))) ⌝ }
+    {
+        let n = wider(h.0);
+        if self.mode == PUT {
+            return self.put(Width::Four, n, out);
+        }
+        self.aside(
+            h.is_listed(),
+            Word::Code,
+            Width::Four,
+            n,
+            Refusal::unknown_code(self.at, n),
+            out,
+        )
+    }
+
+    // The tag of that ticket.
+    pub fn ticket_tag(self, ticket: Ticket, t: TpmSt, out: &mut [u8]) -> Walk
+        ensures { λ r. ⌜ Numbers Two (ticketTag ticket) (t .0) (here self (now (out .entry))) (here r (now (out .exit))) ⌝ }
+    {
+        let n = wide(t.0);
+        if self.mode == PUT {
+            return self.put(Width::Two, n, out);
+        }
+        self.aside(
+            t.is_tag_of(ticket),
+            Word::Number,
+            Width::Two,
+            n,
+            Refusal::bad_value(self.at, n),
+            out,
+        )
+    }
+
     pub fn yes_no(self, b: u8, out: &mut [u8]) -> Walk
         ensures { λ r. ⌜ Numbers One yesNo b (here self (now (out .entry))) (here r (now (out .exit))) ⌝ }
     {
@@ -261,6 +316,13 @@ impl Walk {
         ensures { λ r. ⌜ Dues selector chosen held self r ⌝ }
     {
         self.arm_due(selector as u64, chosen, held)
+    }
+
+    // The same under a selector of one byte.
+    pub fn due_by_handle_type(self, selector: TpmHt, chosen: Choice, held: bool) -> Walk
+        ensures { λ r. ⌜ Dues (selector .0) chosen held self r ⌝ }
+    {
+        self.arm_due(selector.0 as u64, chosen, held)
     }
 
     // The same under a selector of four bytes.

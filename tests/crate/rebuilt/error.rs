@@ -12,7 +12,7 @@ pub enum Fault {
     Code,
     /// The length of a buffer or of a PCR selection is above its limit.
     Length,
-    /// A yes/no byte that is neither, another magic, or a number too great for its width.
+    /// A yes/no byte that is neither, another magic, a number too great for its width; beside the adapted text another tag of a ticket.
     Value,
     /// Writing: the arm held is not the selector's.
     Arm,

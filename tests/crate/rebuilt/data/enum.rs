@@ -1,6 +1,6 @@
 //! Rebuilt, not the crate's. Forced are the names that the text has in its patterns, that a code is such a pattern and has `value()`, and that its
-//! view is itself (tpmt.rs:52). No number is in the text. Algorithms, curves, attestation types and capabilities are docs/FORMAT.md's (section 3),
-//! the other structure tags, handle types and hierarchies Part 2's. Which code is the default is a guess that no reader or writer uses.
+//! view is itself (tpmt.rs:52). No number is in the text. The codes that our format takes are docs/FORMAT.md's (section 3), the other structure
+//! tags, handle types and permanent handles Part 2's. Which code is the default is a guess that no reader or writer uses.
 
 use crate::tpm_enum;
 
@@ -116,8 +116,8 @@ tpm_enum! {
     }
 }
 
-// No kind has the two below. A union and the tickets would not compile without them.
-
+// The text names the three of NV areas; their union has no arm for the others.
+#[cfg(not(adapted))]
 tpm_enum! {
     pub enum TpmHt(u8, TpmUint8) {
         #[default]
@@ -134,6 +134,41 @@ tpm_enum! {
     }
 }
 
+// The text names none of these: which permanent handles the crate has is not known. The first fourteen of Part 2.
+#[cfg(not(adapted))]
+tpm_enum! {
+    pub enum TpmRh(u32, TpmUint32) {
+        Srk = 0x4000_0000,
+        Owner = 0x4000_0001,
+        Revoke = 0x4000_0002,
+        Transport = 0x4000_0003,
+        Operator = 0x4000_0004,
+        Admin = 0x4000_0005,
+        Ek = 0x4000_0006,
+        #[default]
+        Null = 0x4000_0007,
+        Unassigned = 0x4000_0008,
+        Password = 0x4000_0009,
+        Lockout = 0x4000_000a,
+        Endorsement = 0x4000_000b,
+        Platform = 0x4000_000c,
+        PlatformNv = 0x4000_000d,
+    }
+}
+
+// Beside the adapted text both have what docs/FORMAT.md lists, so that another is refused where it stands.
+
+#[cfg(adapted)]
+tpm_enum! {
+    pub enum TpmHt(u8, TpmUint8) {
+        #[default]
+        NvIndex = 0x01,
+        ExternalNv = 0x11,
+        PermanentNv = 0x12,
+    }
+}
+
+#[cfg(adapted)]
 tpm_enum! {
     pub enum TpmRh(u32, TpmUint32) {
         Owner = 0x4000_0001,

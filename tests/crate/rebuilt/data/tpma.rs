@@ -1,5 +1,4 @@
-//! Rebuilt, not the crate's. Attributes: any number of the width (docs/FORMAT.md, section 7). No kind reads `TpmaNv` and `TpmaNvExp`; a union would
-//! not compile without them, and their widths are Part 2's.
+//! Rebuilt, not the crate's. Attributes: any number of the width, which is docs/FORMAT.md's too (section 7).
 
 use crate::tpm_attributes;
 

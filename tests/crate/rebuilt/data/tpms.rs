@@ -418,8 +418,6 @@ impl TpmUnmarshal for TpmsCapabilityData {
     }
 }
 
-// No kind has what follows. The union of NV areas would not compile without these two.
-
 tpm_struct! {
     #[derive(Debug, PartialEq, Eq, Clone, Copy, Default)]
     wire: TpmsNvPublicWire,
@@ -441,6 +439,62 @@ tpm_struct! {
         pub attributes: TpmaNvExp,
         pub auth_policy: Tpm2bDigest,
         pub data_size: TpmUint16,
+    }
+}
+
+// For the adapted text alone: the tag of a ticket, one of two values that may be the same. Another is refused where it stands, as docs/FORMAT.md has
+// it; one that is put there by hand is not judged.
+#[cfg(adapted)]
+#[derive(Debug, PartialEq, Eq, Clone, Copy, Default)]
+pub struct TpmTicketTag<const ONE: u16, const OTHER: u16>(pub TpmSt);
+
+#[cfg(adapted)]
+impl<const ONE: u16, const OTHER: u16> TpmTicketTag<ONE, OTHER> {
+    #[must_use]
+    pub const fn value(self) -> u16 {
+        self.0.value()
+    }
+}
+
+#[cfg(adapted)]
+impl<const ONE: u16, const OTHER: u16> From<TpmSt> for TpmTicketTag<ONE, OTHER> {
+    fn from(tag: TpmSt) -> Self {
+        Self(tag)
+    }
+}
+
+#[cfg(adapted)]
+impl<const ONE: u16, const OTHER: u16> TpmSized for TpmTicketTag<ONE, OTHER> {
+    const SIZE: usize = TpmSt::SIZE;
+    fn len(&self) -> usize {
+        Self::SIZE
+    }
+}
+
+#[cfg(adapted)]
+impl<const ONE: u16, const OTHER: u16> TpmMarshal for TpmTicketTag<ONE, OTHER> {
+    fn marshal(&self, writer: &mut TpmWriter) -> TpmResult<()> {
+        self.0.marshal(writer)
+    }
+}
+
+#[cfg(adapted)]
+impl<const ONE: u16, const OTHER: u16> TpmUnmarshal for TpmTicketTag<ONE, OTHER> {
+    fn unmarshal(buffer: &[u8]) -> TpmResult<(Self, &[u8])> {
+        let (raw, buffer) = TpmUint16::unmarshal(buffer)?;
+        match raw.value() {
+            tag if tag == ONE || tag == OTHER => Ok((Self(TpmSt::try_from(tag)?), buffer)),
+            other => Err(TpmError::rebuilt(Fault::Value, 0, usize::from(other))),
+        }
+    }
+}
+
+#[cfg(adapted)]
+impl<'a, const ONE: u16, const OTHER: u16> TpmField<'a> for TpmTicketTag<ONE, OTHER> {
+    type View = Self;
+
+    fn cast_prefix_field(buf: &'a [u8]) -> TpmResult<(Self::View, &'a [u8])> {
+        Self::unmarshal(buf)
     }
 }
 

@@ -9,10 +9,11 @@ use Rattle.copies.proofs.walk.walk.Tie as tie
 pub walk-spec : {M : Type 1} → Rattle.copies.proofs.walk.walk.Statement.statement M
 unfolding layoutOf kinds
 walk-spec = tie.close (tie.spec
-    (search needs) (search needs) (search needs) (search needs) (search needs) (search needs) (search needs) (search needs) (search needs) (search needs) (search needs)
+    (search needs) (search needs) (search needs) (search needs) (search needs) (search needs) (search needs) (search needs) (search needs) (search needs) (search needs) (search needs) (search needs) (search needs) (search needs) (search needs)
     (search needs) (search needs) (search needs) (search needs) (search needs) (search needs) (search needs) (search needs) (λ c. search kind-walked)
     (search needs) (λ c. search kind-walked) (search needs) (λ c. search kind-walked) (search needs) (λ c. search kind-walked) (search needs)
     (λ c. search kind-walked) (search needs) (λ c. search kind-walked) (search needs) (λ c. search kind-walked) (search needs) (λ c. search kind-walked)
     (search needs) (λ c. search kind-walked) (search needs) (λ c. search kind-walked) (search needs) (λ c. search kind-walked) (search needs)
     (λ c. search kind-walked) (search needs) (λ c. search kind-walked) (search needs) (λ c. search kind-walked) (search needs) (λ c. search kind-walked)
+    (search needs) (λ c. search kind-walked) (search needs) (λ c. search kind-walked) (search needs) (λ c. search kind-walked) (search needs) (λ c. search kind-walked) (search needs) (λ c. search kind-walked)
     (λ c. no-kind-walked _ _ (c .refusing .ensures) (c .before .bad-kind .ensures ∙ ap badKind (c .before .before .wide-byte .ensures)) (none-of _ (c .before .before .before .match .rest))))
