@@ -3,11 +3,13 @@
 # shellcheck shell=sh
 # shellcheck disable=SC2154
 
-program=$root/target/bin/$name
-# rt removes this file before it builds the program, and puts it back once the program is proved, linked and has run as it should: an
+folder=$root/crates/$name
+program=$folder/out/$name
+# This file is removed before rt builds the program, and put back once the program is proved, linked and has run as it should: an
 # interrupted build leaves none.
 built=$root/target/stamp/$name
 log=$root/target/log/$me.log
+ran=$root/target/log/$me.ran
 lock=$root/target/log/build.lock
 # Seconds a crate: a first run of 19 crates took 481 on two Arm cores.
 pace=25
@@ -23,28 +25,31 @@ fail() {
 }
 
 needs_kit() {
-    fail "the Rattle kit is needed and there is no rt: rattle-kit-5b, logic 064da1ca440f63e7. README.md says what is known of where it comes from"
+    fail "the Rattle kit is needed and there is no rt: rattle-kit-13f, logic dac8208d650f15bf. README.md says what is known of where it comes from"
 }
 
 is_built() { [ -x "$program" ] && [ -f "$built" ]; }
 
-is_old() { [ -n "$(find "$root/crates" "$root/crates.txt" -newer "$built" -print -quit)" ]; }
+# Of a crate's own folder its files and folders are looked at: rt makes a folder `out` there, which is no source.
+is_old() { [ -n "$(cd "$root" && find crates crates.txt -regex 'crates/[^/]*/out' -prune -o ! -regex 'crates/[^/]*' -newer "$built" -print -quit)" ]; }
 
 is_good() { is_built && ! is_old; }
 
-can_write() { mkdir -p "$root/target/log" && true >>"$lock" && true >>"$log"; } 2>/dev/null
+can_write() { mkdir -p "$root/target/log" "$root/target/stamp" && true >>"$lock" && true >>"$log"; } 2>/dev/null
 
-# The crates that this program rests on, and itself, are as many as this prints. The kit's own have no line in crates.txt.
-count_crates() {
+# The crates that this program rests on, and itself, in the order in which rt builds them. The kit's own have no line in crates.txt.
+list_crates() {
     NAME=$name awk -F: '
-        function need(n,   words, k) {
+        function need(n,   words, count, k) {
             if (!(n in rests) || n in seen) return
             seen[n] = 1
-            count++
-            for (k = split(rests[n], words, " "); k > 0; k--) need(words[k])
+            count = split(rests[n], words, " ")
+            for (k = 1; k <= count; k++) need(words[k])
+            print n
         }
-        !/^#/ { rests[$1] = $2 }
-        END { need(ENVIRON["NAME"]); print count + 0 }' "$root/crates.txt"
+        { sub(/#.*/, "") }
+        /:/ { split($1, head, " "); rests[head[1]] = $2 }
+        END { need(ENVIRON["NAME"]) }' "$root/crates.txt"
 }
 
 # The time in all: the time so far, and for each crate that is left the usual pace, or the pace so far where that is slower.
@@ -56,12 +61,13 @@ minutes() { # CRATES DONE SECONDS
     }'
 }
 
-# Says a line for each crate that rt has ended since the last call, save those that it did not have to prove.
+# Says a line for each crate that rt has proved since the last call, with its number in the list. Of one that it need not prove rt says nothing.
 tell() {
-    lines=$(sed -n 's/^rt: [^ ]* proved (\([0-9u]\).*/\1/p' "$log" | tail -n +"$((told + 1))")
-    for first in $lines; do
+    proved=$(awk '/^crate [^ ]*: modules / { crate = $2; sub(/:$/, "", crate) } /^logic=proved/ { print crate }' "$log" | tail -n +"$((told + 1))")
+    for crate in $proved; do
         told=$((told + 1))
-        [ "$first" = u ] || say "crate $told of $crates, about $(minutes "$crates" "$told" "$(($(date +%s) - began))") in all"
+        number=$(printf '%s\n' "$needed" | sed -n "/^$crate\$/=")
+        [ -z "$number" ] || say "crate $number of $crates, about $(minutes "$crates" "$number" "$(($(date +%s) - began))") in all"
     done
 }
 
@@ -73,8 +79,11 @@ stop() { # SIGNAL
     kill -s "$1" $$
 }
 
+# What rt says goes to the log. It runs the program last, on the crate's file stdin: what that writes goes to a file of its own.
 start_rt() {
-    (trap - PIPE && cd "$root" && exec setsid rt check "$name") </dev/null >"$log" 2>&1 8>&- 9>&- &
+    given=$folder/stdin
+    [ -f "$given" ] || given=/dev/null
+    (trap - PIPE && cd "$folder" && exec setsid rt run) <"$given" >"$ran" 2>"$log" 8>&- 9>&- &
     job=$!
     for signal in HUP INT TERM; do
         # shellcheck disable=SC2064
@@ -99,9 +108,19 @@ not_built() {
     exit 2
 }
 
+# The program must write what the crate's file stdout has.
+has_run() {
+    wanted=$folder/stdout
+    [ -f "$wanted" ] || wanted=/dev/null
+    cmp -s "$ran" "$wanted" || {
+        echo "the program ran, and wrote something else than $wanted has: $ran" >>"$log"
+        return 1
+    }
+}
+
 build() {
-    [ -x "$program" ] || rm -f "$built" # with it rt would not build
-    crates=$(count_crates)
+    needed=$(list_crates)
+    crates=$(printf '%s\n' "$needed" | sed -n '$=')
     began=$(date +%s)
     touch "$lock"
     if is_built; then
@@ -109,11 +128,14 @@ build() {
     else
         say "proving and building the program, about $(minutes "$crates" 0 0)"
     fi
+    rm -f "$built"
     start_rt
     wait_for_rt || not_built
-    is_built || not_built
     # What was changed since rt began is newer than the build.
-    touch -r "$lock" "$built" || fail "the time of the build cannot be kept"
+    touch -r "$lock" "$built.new" || fail "the time of the build cannot be kept"
+    has_run || not_built
+    mv "$built.new" "$built"
+    is_built || not_built
 }
 
 # Two builds in one checkout would break each other. A lock folder would outlive a run that is killed. This lock is held by an open

@@ -5,12 +5,13 @@
 first=$work/first
 copy_unbuilt "$first"
 log=$first/target/log/cabinet-list.log
-built=$first/target/bin/cabinet_list
+built=$first/$program
 crates=$(sed -n 's/^cabinet_list: *//p' "$root/crates.txt" | tr ' ' '\n' | while read -r crate; do [ ! -d "$root/crates/$crate" ] || echo; done | wc -l)
 crates=$((crates + 1))
 
 # What a first run says.
-said='cabinet-list: proving and building the program, about [1-9] minutes'
+proving='cabinet-list: proving and building the program, about [1-9]* minutes'
+said=$proving
 number=0
 while [ "$number" -lt "$crates" ]; do
     number=$((number + 1))
@@ -31,7 +32,7 @@ rm "$built"
 try 'the program is gone' 0 aes "$said" 'fake good "$first/cabinet-list" "$deposits/aes"'
 
 # Two first runs at once. A line comes when its crate is ended, not at the end.
-unbuild() { rm -rf "$first/target" "$FAKE_DIR/calls"; }
+unbuild() { rm -rf "$first/target" "$first"/crates/*/out "$FAKE_DIR/calls"; }
 unbuild
 start one steps "$first/cabinet-list" "$deposits/aes"
 one=$started
@@ -50,10 +51,15 @@ cabinet-list: crate 1 of $crates*
 cabinet-list: crate 2 of $crates*
 cabinet-list: the program was not built. The last lines of $log:
 *error: the goal is not proved
-*rt: FAILED: codes" 'fake refused "$first/cabinet-list" "$deposits/aes"'
+*rt: the library codes did not build, so nothing above it was checked" 'fake refused "$first/cabinet-list" "$deposits/aes"'
 try 'the program was linked, and its run failed' 2 nothing '*the program was not built*' 'fake unrun "$first/cabinet-list" "$deposits/aes"'
 check 'the program is there' '[ -x "$built" ]'
-try 'and it is not taken for good' 0 aes "$said" 'fake good "$first/cabinet-list" "$deposits/aes"'
+try 'and it is not taken for good' 0 aes "$proving" 'fake good "$first/cabinet-list" "$deposits/aes"'
+unbuild
+try 'the program was linked, and its run wrote something else' 2 nothing '*the program was not built*the program ran, and wrote something else than *' \
+    'fake unlike "$first/cabinet-list" "$deposits/aes"'
+check 'that program is there' '[ -x "$built" ]'
+try 'and that is not taken for good' 0 aes "$proving" 'fake good "$first/cabinet-list" "$deposits/aes"'
 
 gone() { ! kill -0 "$(cat "$FAKE_DIR/child")" 2>/dev/null; }
 
@@ -117,7 +123,7 @@ try 'a read-only checkout, nothing built' 2 nothing "cabinet-list: the program i
     'fake good $drop "$work/readonly-unbuilt/cabinet-list" "$deposits/aes"'
 
 # No rt.
-no_kit='cabinet-list: the Rattle kit is needed*rattle-kit-5b, logic 064da1ca440f63e7*README*'
+no_kit='cabinet-list: the Rattle kit is needed*rattle-kit-13f, logic dac8208d650f15bf*README*'
 copy_unbuilt "$work/unbuilt"
 stand_in "$work/native" 'cat >/dev/null; echo listed; echo 0 >&3'
 echo listed >"$want/listed"

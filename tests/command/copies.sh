@@ -2,11 +2,16 @@
 # shellcheck shell=sh
 # shellcheck disable=SC2034,SC2154
 
-# The parts that the command needs, their times kept; the program is there and newer than its sources.
+# Where a program stands in a checkout.
+program=crates/cabinet_list/out/cabinet_list
+
+# The parts that the command needs, their times kept, and of what rt made the program alone, which is newer than its sources.
 copy_checkout() { # FOLDER
-    mkdir -p "$1/target/bin" "$1/target/stamp" "$1/target/log"
-    cp -a "$root/cabinet-list" "$root/tools" "$root/crates" "$root/crates.txt" "$1"
-    cp -a "$root/target/bin/cabinet_list" "$1/target/bin"
+    mkdir -p "$1/target/stamp" "$1/target/log"
+    cp -a "$root/cabinet-list" "$root/tools" "$root/crates.txt" "$1"
+    tar -C "$root" --anchored --no-wildcards-match-slash --exclude='crates/*/out' -cf - crates | tar -C "$1" -xf -
+    mkdir "$(dirname "$1/$program")"
+    cp -a "$root/$program" "$1/$program"
     cp "$root/target/stamp/cabinet_list" "$1/target/stamp"
     chmod -R go+rX "$1"
 }
@@ -14,7 +19,7 @@ copy_checkout() { # FOLDER
 # The same with nothing built.
 copy_unbuilt() { # FOLDER
     copy_checkout "$1"
-    rm -rf "$1/target"
+    rm -rf "$1/target" "$1"/crates/*/out
 }
 
 copy_checkout "$work/copy"
@@ -27,14 +32,14 @@ drop=
 # A PATH of the test's own with all that the command calls, and no rt.
 bare=$work/bare
 mkdir "$bare"
-for tool in awk cat date dirname find flock grep mkdir readlink rm sed setsid sh sleep tail touch tr uname; do
+for tool in awk cat cmp date dirname find flock grep mkdir mv readlink rm sed setsid sh sleep tail touch tr uname; do
     ln -s "$(command -v "$tool")" "$bare/$tool"
 done
 
 # With the stand-in for rt, in place of the trial's shell. The emulator is still the kit's.
-export FAKE_DIR="$work/fake" FAKE_PROGRAM="$root/target/bin/cabinet_list"
+export FAKE_DIR="$work/fake" FAKE_PROGRAM="$root/$program"
 mkdir "$FAKE_DIR"
-for tool in cp head; do
+for tool in basename cp head; do
     ln -s "$(command -v "$tool")" "$FAKE_DIR/$tool"
 done
 cp "$here/fake-rt" "$FAKE_DIR/rt"
@@ -71,5 +76,5 @@ on() { # MACHINE COMMAND
 # A checkout whose program is a shell script, for a machine that says x86_64.
 stand_in() { # FOLDER SCRIPT
     copy_checkout "$1"
-    printf '#!/bin/sh\n%s\n' "$2" >"$1/target/bin/cabinet_list"
+    printf '#!/bin/sh\n%s\n' "$2" >"$1/$program"
 }

@@ -3,7 +3,8 @@
 //   MOST   a call takes no more than so many bytes
 //   EINTR  every so-manieth call is interrupted
 //   STOP   after so many bytes in all, calls fail with the errno ERROR
-// and with CLOSE_ERROR closing descriptor 1 fails with that errno.
+// and with SYNC_ERROR waiting for what is written later fails with that errno; with SYNC_EINTR only every so-manieth call of that does, and
+// the others are interrupted.
 // No headers: the kit's compiler, which makes code for x86-64 on every machine, comes with none.
 typedef unsigned long size;
 
@@ -14,7 +15,7 @@ int strcmp(const char *a, const char *b);
 int *__errno_location(void);
 long syscall(long number, ...);
 
-enum { READ = 0, WRITE = 1, CLOSE = 3, EINTR = 4 };
+enum { READ = 0, WRITE = 1, SYNC = 75, EINTR = 4 };
 
 struct way {
     const char *most, *eintr, *stop, *error;
@@ -71,8 +72,11 @@ long write(int fd, const void *bytes, size n) {
     return syscall(WRITE, fd, bytes, n);
 }
 
-int close(int fd) {
-    int error = fd == 1 && is_program() ? number("CLOSE_ERROR") : 0;
-    int got = (int)syscall(CLOSE, fd);
-    return error ? fail(error) : got;
+// The program waits on a descriptor of its own, which leads to the same file as descriptor 1.
+int fdatasync(int fd) {
+    static int calls;
+    int error = is_program() ? number("SYNC_ERROR") : 0;
+    if (error && number("SYNC_EINTR") && ++calls % number("SYNC_EINTR") != 0)
+        return fail(EINTR);
+    return error ? fail(error) : (int)syscall(SYNC, fd);
 }

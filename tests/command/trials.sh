@@ -5,7 +5,7 @@
 tried=0 failed=0
 out=$work/out err=$work/err
 
-# Deposits, and beside each what it is listed as. The first two are of document 01.
+# Deposits, and beside each what it is listed as. The first two are of docs/FORMAT.md, section 11.
 deposits=$work/deposits
 want=$work/want
 mkdir "$deposits" "$want"

@@ -1,4 +1,6 @@
 // Tries all 65,536 algorithm codes, and writes those that are read, and how many they are.
+#![tactic(auto)]
+
 ghost use Rattle.std.specs.Prelude.{◌+◌, ◌≤◌, ◌<◌};
 
 use codes::{TpmAlgId, TpmAlgIdRead};

@@ -49,10 +49,10 @@ tpmu_nv_public2_once =
     ∷ holds ht_external_nv TpmuNvPublic2.ExternalNv tpms_nv_public_exp_attr_once
     ∷ holds ht_permanent_nv TpmuNvPublic2.PermanentNv tpms_nv_public_once
     ∷ [])
-    (λ u qs. elim u [
-      | TpmuNvPublic2.NvIndex x ↦ rw (tpms_nv_public_once.back x qs)
-      | TpmuNvPublic2.ExternalNv x ↦ rw (tpms_nv_public_exp_attr_once.back x qs)
-      | TpmuNvPublic2.PermanentNv x ↦ rw (tpms_nv_public_once.back x qs)
+    (elim [
+      | TpmuNvPublic2.NvIndex x ↦ λ qs. rw (tpms_nv_public_once.back x qs)
+      | TpmuNvPublic2.ExternalNv x ↦ λ qs. rw (tpms_nv_public_exp_attr_once.back x qs)
+      | TpmuNvPublic2.PermanentNv x ↦ λ qs. rw (tpms_nv_public_once.back x qs)
     ])
 
 pub tpmt_nv_public2_once : Once tpmt_nv_public2_parts

@@ -11,13 +11,13 @@ use wire::read::{SpanRead, buffer};
 use wire::span::Span;
 use wire::width::Width;
 
-#[derive(Drop)]
+#[derive(Clone, Copy)]
 pub struct TicketBody {
     pub hierarchy: TpmRh,
     pub digest: Span,
 }
 
-#[derive(Drop)]
+#[derive(Clone, Copy)]
 pub enum TicketBodyRead {
     Found(TicketBody, usize),
     No(Refusal),

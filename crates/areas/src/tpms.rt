@@ -16,20 +16,20 @@ use wire::span::Span;
 use wire::width::Width;
 
 // The attributes of an NV area, as they stand.
-#[derive(Drop)]
+#[derive(Clone, Copy)]
 pub struct TpmaNv(pub u32);
 
 // The expanded attributes.
-#[derive(Drop)]
+#[derive(Clone, Copy)]
 pub struct TpmaNvExp(pub u64);
 
-#[derive(Drop)]
+#[derive(Clone, Copy)]
 pub struct NvPublicTail {
     pub auth_policy: Span,
     pub data_size: u16,
 }
 
-#[derive(Drop)]
+#[derive(Clone, Copy)]
 pub struct TpmsNvPublic {
     pub nv_index: u32,
     pub name_alg: TpmAlgId,
@@ -38,7 +38,7 @@ pub struct TpmsNvPublic {
     pub data_size: u16,
 }
 
-#[derive(Drop)]
+#[derive(Clone, Copy)]
 pub struct TpmsNvPublicExpAttr {
     pub nv_index: u32,
     pub name_alg: TpmAlgId,
@@ -47,19 +47,19 @@ pub struct TpmsNvPublicExpAttr {
     pub data_size: u16,
 }
 
-#[derive(Drop)]
+#[derive(Clone, Copy)]
 pub enum NvPublicTailRead {
     Found(NvPublicTail, usize),
     No(Refusal),
 }
 
-#[derive(Drop)]
+#[derive(Clone, Copy)]
 pub enum TpmsNvPublicRead {
     Found(TpmsNvPublic, usize),
     No(Refusal),
 }
 
-#[derive(Drop)]
+#[derive(Clone, Copy)]
 pub enum TpmsNvPublicExpAttrRead {
     Found(TpmsNvPublicExpAttr, usize),
     No(Refusal),

@@ -22,65 +22,65 @@ use wire::measure::Measure;
 use wire::read::nothing_behind;
 use wire::span::Span;
 
-#[derive(Drop)]
+#[derive(Clone, Copy)]
 pub struct TpmtNvPublic2 {
     pub handle_type: TpmHt,
     pub public_area: TpmuNvPublic2,
 }
 
-#[derive(Drop)]
+#[derive(Clone, Copy)]
 pub struct TpmtTkCreation {
     pub tag: TpmSt,
     pub hierarchy: TpmRh,
     pub digest: Span,
 }
 
-#[derive(Drop)]
+#[derive(Clone, Copy)]
 pub struct TpmtTkVerified {
     pub tag: TpmSt,
     pub hierarchy: TpmRh,
     pub digest: Span,
 }
 
-#[derive(Drop)]
+#[derive(Clone, Copy)]
 pub struct TpmtTkHashcheck {
     pub tag: TpmSt,
     pub hierarchy: TpmRh,
     pub digest: Span,
 }
 
-#[derive(Drop)]
+#[derive(Clone, Copy)]
 pub struct TpmtTkAuth {
     pub tag: TpmSt,
     pub hierarchy: TpmRh,
     pub digest: Span,
 }
 
-#[derive(Drop)]
+#[derive(Clone, Copy)]
 pub enum TpmtNvPublic2Read {
     Found(TpmtNvPublic2, usize),
     No(Refusal),
 }
 
-#[derive(Drop)]
+#[derive(Clone, Copy)]
 pub enum TpmtTkCreationRead {
     Found(TpmtTkCreation, usize),
     No(Refusal),
 }
 
-#[derive(Drop)]
+#[derive(Clone, Copy)]
 pub enum TpmtTkVerifiedRead {
     Found(TpmtTkVerified, usize),
     No(Refusal),
 }
 
-#[derive(Drop)]
+#[derive(Clone, Copy)]
 pub enum TpmtTkHashcheckRead {
     Found(TpmtTkHashcheck, usize),
     No(Refusal),
 }
 
-#[derive(Drop)]
+#[derive(Clone, Copy)]
 pub enum TpmtTkAuthRead {
     Found(TpmtTkAuth, usize),
     No(Refusal),

@@ -14,14 +14,14 @@ use format::arms::nv_public2_arm;
 use steps::walk::Walk;
 use wire::widen::wide_byte;
 
-#[derive(Drop)]
+#[derive(Clone, Copy)]
 pub enum TpmuNvPublic2 {
     NvIndex(TpmsNvPublic),
     ExternalNv(TpmsNvPublicExpAttr),
     PermanentNv(TpmsNvPublic),
 }
 
-#[derive(Drop)]
+#[derive(Clone, Copy)]
 pub enum TpmuNvPublic2Read {
     Found(TpmuNvPublic2, usize),
     No(Refusal),

@@ -75,15 +75,15 @@ tpmu_attest_once =
     ∷ holds attest_nv TpmuAttest.Nv tpms_nv_certify_info_once
     ∷ holds attest_nv_digest TpmuAttest.NvDigest tpms_nv_digest_certify_info_once
     ∷ [])
-    (λ u qs. elim u [
-      | TpmuAttest.Certify x ↦ rw (tpms_certify_info_once.back x qs)
-      | TpmuAttest.Creation x ↦ rw (tpms_creation_info_once.back x qs)
-      | TpmuAttest.Quote x ↦ rw (tpms_quote_info_once.back x qs)
-      | TpmuAttest.CommandAudit x ↦ rw (tpms_command_audit_info_once.back x qs)
-      | TpmuAttest.SessionAudit x ↦ rw (tpms_session_audit_info_once.back x qs)
-      | TpmuAttest.Time x ↦ rw (tpms_time_attest_info_once.back x qs)
-      | TpmuAttest.Nv x ↦ rw (tpms_nv_certify_info_once.back x qs)
-      | TpmuAttest.NvDigest x ↦ rw (tpms_nv_digest_certify_info_once.back x qs)
+    (elim [
+      | TpmuAttest.Certify x ↦ λ qs. rw (tpms_certify_info_once.back x qs)
+      | TpmuAttest.Creation x ↦ λ qs. rw (tpms_creation_info_once.back x qs)
+      | TpmuAttest.Quote x ↦ λ qs. rw (tpms_quote_info_once.back x qs)
+      | TpmuAttest.CommandAudit x ↦ λ qs. rw (tpms_command_audit_info_once.back x qs)
+      | TpmuAttest.SessionAudit x ↦ λ qs. rw (tpms_session_audit_info_once.back x qs)
+      | TpmuAttest.Time x ↦ λ qs. rw (tpms_time_attest_info_once.back x qs)
+      | TpmuAttest.Nv x ↦ λ qs. rw (tpms_nv_certify_info_once.back x qs)
+      | TpmuAttest.NvDigest x ↦ λ qs. rw (tpms_nv_digest_certify_info_once.back x qs)
     ])
 
 -- ---- kind 13

@@ -28,7 +28,7 @@ use wire::read::{NumberRead, SpanRead, buffer, nothing_behind, number};
 use wire::span::Span;
 use wire::width::Width;
 
-#[derive(Drop)]
+#[derive(Clone, Copy)]
 pub struct TpmsAttest {
     pub magic: u32,
     pub attest_type: TpmSt,
@@ -39,7 +39,7 @@ pub struct TpmsAttest {
     pub attested: TpmuAttest,
 }
 
-#[derive(Drop)]
+#[derive(Clone, Copy)]
 pub enum TpmsAttestRead {
     Found(TpmsAttest, usize),
     No(Refusal),

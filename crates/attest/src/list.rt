@@ -22,12 +22,12 @@ use wire::measure::Measure;
 use wire::read::nothing_behind;
 use wire::span::Span;
 
-#[derive(Drop)]
+#[derive(Clone, Copy)]
 pub struct TpmlPcrSelection {
     pub items: Span,
 }
 
-#[derive(Drop)]
+#[derive(Clone, Copy)]
 pub enum TpmlPcrSelectionRead {
     Found(TpmlPcrSelection, usize),
     No(Refusal),

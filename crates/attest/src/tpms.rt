@@ -16,7 +16,7 @@ use wire::read::{NumberRead, SpanRead, buffer, number};
 use wire::span::Span;
 use wire::width::Width;
 
-#[derive(Drop)]
+#[derive(Clone, Copy)]
 pub struct TpmsClockInfo {
     pub clock: u64,
     pub reset_count: u32,
@@ -24,31 +24,31 @@ pub struct TpmsClockInfo {
     pub safe: u8,
 }
 
-#[derive(Drop)]
+#[derive(Clone, Copy)]
 pub struct TpmsTimeInfo {
     pub time: u64,
     pub clock_info: TpmsClockInfo,
 }
 
-#[derive(Drop)]
+#[derive(Clone, Copy)]
 pub struct TpmsCertifyInfo {
     pub name: Span,
     pub qualified_name: Span,
 }
 
-#[derive(Drop)]
+#[derive(Clone, Copy)]
 pub struct TpmsCreationInfo {
     pub object_name: Span,
     pub creation_hash: Span,
 }
 
-#[derive(Drop)]
+#[derive(Clone, Copy)]
 pub struct TpmsQuoteInfo {
     pub pcr_select: TpmlPcrSelection,
     pub pcr_digest: Span,
 }
 
-#[derive(Drop)]
+#[derive(Clone, Copy)]
 pub struct TpmsCommandAuditInfo {
     pub audit_counter: u64,
     pub digest_alg: TpmAlgId,
@@ -56,86 +56,86 @@ pub struct TpmsCommandAuditInfo {
     pub command_digest: Span,
 }
 
-#[derive(Drop)]
+#[derive(Clone, Copy)]
 pub struct TpmsSessionAuditInfo {
     pub exclusive_session: u8,
     pub session_digest: Span,
 }
 
-#[derive(Drop)]
+#[derive(Clone, Copy)]
 pub struct TpmsTimeAttestInfo {
     pub time: TpmsTimeInfo,
     pub firmware_version: u64,
 }
 
-#[derive(Drop)]
+#[derive(Clone, Copy)]
 pub struct TpmsNvCertifyInfo {
     pub index_name: Span,
     pub offset: u16,
     pub nv_contents: Span,
 }
 
-#[derive(Drop)]
+#[derive(Clone, Copy)]
 pub struct TpmsNvDigestCertifyInfo {
     pub index_name: Span,
     pub nv_digest: Span,
 }
 
-#[derive(Drop)]
+#[derive(Clone, Copy)]
 pub enum TpmsClockInfoRead {
     Found(TpmsClockInfo, usize),
     No(Refusal),
 }
 
-#[derive(Drop)]
+#[derive(Clone, Copy)]
 pub enum TpmsTimeInfoRead {
     Found(TpmsTimeInfo, usize),
     No(Refusal),
 }
 
-#[derive(Drop)]
+#[derive(Clone, Copy)]
 pub enum TpmsCertifyInfoRead {
     Found(TpmsCertifyInfo, usize),
     No(Refusal),
 }
 
-#[derive(Drop)]
+#[derive(Clone, Copy)]
 pub enum TpmsCreationInfoRead {
     Found(TpmsCreationInfo, usize),
     No(Refusal),
 }
 
-#[derive(Drop)]
+#[derive(Clone, Copy)]
 pub enum TpmsQuoteInfoRead {
     Found(TpmsQuoteInfo, usize),
     No(Refusal),
 }
 
-#[derive(Drop)]
+#[derive(Clone, Copy)]
 pub enum TpmsCommandAuditInfoRead {
     Found(TpmsCommandAuditInfo, usize),
     No(Refusal),
 }
 
-#[derive(Drop)]
+#[derive(Clone, Copy)]
 pub enum TpmsSessionAuditInfoRead {
     Found(TpmsSessionAuditInfo, usize),
     No(Refusal),
 }
 
-#[derive(Drop)]
+#[derive(Clone, Copy)]
 pub enum TpmsTimeAttestInfoRead {
     Found(TpmsTimeAttestInfo, usize),
     No(Refusal),
 }
 
-#[derive(Drop)]
+#[derive(Clone, Copy)]
 pub enum TpmsNvCertifyInfoRead {
     Found(TpmsNvCertifyInfo, usize),
     No(Refusal),
 }
 
-#[derive(Drop)]
+#[derive(Clone, Copy)]
 pub enum TpmsNvDigestCertifyInfoRead {
     Found(TpmsNvDigestCertifyInfo, usize),
     No(Refusal),

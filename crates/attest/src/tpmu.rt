@@ -19,7 +19,7 @@ use format::arms::attest_arm;
 use steps::walk::Walk;
 use wire::widen::wide;
 
-#[derive(Drop)]
+#[derive(Clone, Copy)]
 pub enum TpmuAttest {
     Certify(TpmsCertifyInfo),
     Creation(TpmsCreationInfo),
@@ -31,7 +31,7 @@ pub enum TpmuAttest {
     NvDigest(TpmsNvDigestCertifyInfo),
 }
 
-#[derive(Drop)]
+#[derive(Clone, Copy)]
 pub enum TpmuAttestRead {
     Found(TpmuAttest, usize),
     No(Refusal),

@@ -5,9 +5,9 @@ use borrow.Author.Tests.{leb-true, leb-false, le-leb, ne_eqb}
 use mathlib.Core.Path.{◌≡◌, refl, sym, ap, ◌∙◌}
 use mathlib.Core.Bool.{Bool, true, false, cond}
 use mathlib.Core.List.{List, [], ◌∷◌}
-use lib.ListN.{length, take, drop, length-drop}
+use lib.ListN.{length, take, drop}
 use lib.Seq.{length-take-le, take_all}
-use lib.Dec.{leb, eqb}
+use lib.Dec.{leb}
 use Rattle.faults.specs.Faults.{bad_kind, oversize}
 use Rattle.wire.specs.Bytes.{Bytes}
 use Rattle.wire.specs.Records.{refused}

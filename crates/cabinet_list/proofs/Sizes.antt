@@ -1,5 +1,5 @@
 -- The size in front of a record, as it is read. Assumes nothing.
-use Prim.Native.Nat.{ℕ, zero, suc, ◌-◌, ◌≤◌, ◌<◌}
+use Prim.Native.Nat.{ℕ, ◌-◌, ◌≤◌, ◌<◌}
 use native.Mathlib.Omega.{arith}
 use borrow.Author.Tests.{leb-true, leb-false}
 use mathlib.Core.Path.{◌≡◌, refl, sym, ap, ◌∙◌}
@@ -11,7 +11,7 @@ use lib.Dec.{leb, eqb}
 use Rattle.faults.specs.declared.Refusal.{Refusal}
 use Rattle.wire.specs.Bytes.{be}
 use Rattle.wire.specs.Layout.{free, one}
-use Rattle.wire.specs.Records.{Part, num, tag, span, left, refused, parsed}
+use Rattle.wire.specs.Records.{Part, num, tag, span, refused, parsed}
 use Rattle.wire.specs.Reading.{read}
 use Rattle.wire.proofs.Leaves.{one_there, one_short}
 use Rattle.wire.proofs.Steps.{found_refused, parsed_same}

@@ -8,9 +8,9 @@ abbrev pub MovedWithin : Moved → ℕ → Type 0
 MovedWithin (Moved.Bytes n) most = n ≤ most
 MovedWithin Moved.None most = Unit {0}
 MovedWithin Moved.BrokenOff most = Unit {0}
-MovedWithin Moved.Failed most = Unit {0}
+MovedWithin (Moved.Failed why) most = Unit {0}
 
 -- bytes that were read: no more than there is room for
 abbrev pub TakenWithin : Taken → ℕ → Type 0
 TakenWithin (Taken.Bytes n) most = n ≤ most
-TakenWithin Taken.Failed most = Unit {0}
+TakenWithin (Taken.Failed why) most = Unit {0}

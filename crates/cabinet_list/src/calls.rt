@@ -1,67 +1,67 @@
-// Reading and writing, by calls of read(2) and write(2) whose every answer is looked at. A call that a signal broke off is made again.
-ghost use Rattle.std.specs.Prelude.{◌≤◌, ◌≡◌, length};
+// Reading and writing, by calls whose every answer is looked at. A call that a signal broke off is made again.
+ghost use Rattle.std.specs.Prelude.{◌≤◌, length};
 ghost use Rattle.cabinet_list.specs.Calls.{MovedWithin, TakenWithin};
 
-// What a call came to: it moved so many bytes, it moved none, it was broken off by a signal, or it failed, and errno says why.
-#[derive(Drop)]
+use std::io::{Error, ErrorKind, Read, Write};
+
+// What a call came to: it moved so many bytes, it moved none, it was broken off by a signal, or it failed, for this reason.
+#[derive(Clone, Copy)]
 enum Moved {
     Bytes(usize),
     None,
     BrokenOff,
-    Failed,
+    Failed(Error),
 }
 
 // What has been read: so many bytes, and then the input ended or the slice was full; or a call failed.
-#[derive(Drop)]
+#[derive(Clone, Copy)]
 pub enum Taken {
     Bytes(usize),
-    Failed,
+    Failed(Error),
 }
 
-fn came(got: isize, buf: &[u8]) -> Moved
+fn came(got: Result<usize, Error>, buf: &[u8]) -> Moved
     ensures { MovedWithin result (length buf.now) }
 {
-    if got < 0 {
-        if os::errno() == libc::EINTR {
-            return Moved::BrokenOff;
+    match got {
+        Ok(0) => Moved::None,
+        Ok(n) => Moved::Bytes(n.min(buf.len())),
+        Err(why) => {
+            if why.kind() == ErrorKind::Interrupted {
+                return Moved::BrokenOff;
+            }
+            Moved::Failed(why)
         }
-        return Moved::Failed;
     }
-    if got == 0 {
-        return Moved::None;
-    }
-    Moved::Bytes(io::count(got, buf))
 }
 
-fn read_some(buf: &mut [u8]) -> Moved
+fn read_some<R: Read>(from: &mut R, buf: &mut [u8]) -> Moved
     ensures { MovedWithin result (length buf.new) }
 {
     if buf.len() == 0 {
         return Moved::None;
     }
-    let got = libc::read(libc::STDIN_FILENO, buf);
+    let got = from.read(buf);
     came(got, buf)
 }
 
-fn write_some(fd: i32, buf: &[u8]) -> Moved
+fn write_some<W: Write>(to: &mut W, buf: &[u8]) -> Moved
     ensures { MovedWithin result (length buf.now) }
 {
     if buf.len() == 0 {
         return Moved::None;
     }
-    came(libc::write(fd, buf), buf)
+    came(to.write(buf), buf)
 }
 
-// Fills buf from standard input, as far as that goes. A proved loop has to end, and nothing says that signals do: it counts down from a
-// number that no run uses up.
-pub fn take(buf: &mut [u8]) -> Taken
+// Fills buf from the reader, as far as that goes. A proved loop has to end, and nothing says that signals do: it counts up to a
+// number that no run reaches.
+pub fn take<R: Read>(from: &mut R, buf: &mut [u8]) -> Taken
     ensures { TakenWithin result (length buf.new) }
 {
     let mut done: usize = 0;
-    let mut calls = u64::MAX;
-    while calls > 0 {
-        calls -= 1;
-        match read_some(&mut buf[done..]) {
+    for _ in 0..u64::MAX {
+        match read_some(from, &mut buf[done..]) {
             Moved::Bytes(n) => {
                 done += n;
             }
@@ -69,32 +69,40 @@ pub fn take(buf: &mut [u8]) -> Taken
                 return Taken::Bytes(done);
             }
             Moved::BrokenOff => {}
-            Moved::Failed => {
-                return Taken::Failed;
+            Moved::Failed(why) => {
+                return Taken::Failed(why);
             }
         }
     }
-    Taken::Failed
+    Taken::Failed(Error::from(ErrorKind::Interrupted))
 }
 
-// Whether all of buf was written.
-pub fn give(fd: i32, buf: &[u8]) -> bool {
+// The same of standard input.
+pub fn take_input(rt: HostRuntime, buf: &mut [u8]) -> Taken
+    ensures { TakenWithin result (length buf.new) }
+{
+    take(&mut rt.stdin(), buf)
+}
+
+// Whether all of buf was written, or why not.
+pub fn give<W: Write>(to: &mut W, buf: &[u8]) -> Result<(), Error> {
     let mut done: usize = 0;
-    let mut calls = u64::MAX;
-    while calls > 0 {
-        calls -= 1;
-        match write_some(fd, &buf[done..]) {
+    for _ in 0..u64::MAX {
+        match write_some(to, &buf[done..]) {
             Moved::Bytes(n) => {
                 done += n;
             }
             Moved::None => {
-                return done == buf.len();
+                if done == buf.len() {
+                    return Ok(());
+                }
+                return Err(Error::from(ErrorKind::WriteZero));
             }
             Moved::BrokenOff => {}
-            Moved::Failed => {
-                return false;
+            Moved::Failed(why) => {
+                return Err(why);
             }
         }
     }
-    false
+    Err(Error::from(ErrorKind::Interrupted))
 }

@@ -8,7 +8,7 @@ use listing::deposit::{is_deposit_read, is_record_read, list_deposit, list_recor
 use wire::measure::Measure;
 
 // A deposit: a kind byte, and then the record. A record of a kind that is known. Such a record behind its size in two bytes: a TPM2B.
-#[derive(Drop)]
+#[derive(Clone, Copy)]
 pub enum Form {
     Deposit,
     Record(u8),

@@ -7,12 +7,13 @@ ghost use Rattle.text.specs.Puts.{Puts};
 ghost use Rattle.records.specs.Runs.{divided};
 ghost use Rattle.cabinet_list.specs.Rows.{entry_text, between, IsNumbered};
 
-use crate::calls::{Taken, give, take};
+use crate::calls::{Taken, give, take_input};
 use crate::status::{failed, say, unwritten, write_listing};
 use faults::Refusal;
 use listing::deposit::list_record;
 use records::kind::record_end;
 use records::runs::count;
+use std::io::Error;
 use text::answer::{fit_record_at_line, fit_refusal_line};
 use wire::measure::Measure;
 
@@ -50,17 +51,24 @@ fn put_entry(kind: u8, s: &[u8], number: usize, at: usize, end: usize, out: &mut
     }
 }
 
-// Whether that was written.
-fn is_entry_given(kind: u8, s: &[u8], number: usize, at: usize, end: usize) -> bool
+// Whether that was written, or why not.
+fn is_entry_given(
+    rt: HostRuntime,
+    kind: u8,
+    s: &[u8],
+    number: usize,
+    at: usize,
+    end: usize,
+) -> Result<(), Error>
     requires { IsNumbered kind s.now number at end }
 {
     let mut out = entry_room();
     let n = put_entry(kind, s, number, at, end, &mut out);
-    give(libc::STDOUT_FILENO, &out[..n])
+    give(&mut rt.stdout(), &out[..n])
 }
 
-// Whether the n records that s was found to be were written, each from where the last one ends. All were counted, so the next is there.
-fn is_row_given(kind: u8, s: &[u8], n: usize) -> bool
+// Whether the n records that s was found to be were written, each from where the last one ends, or why not. All were counted, so the next is there.
+fn is_row_given(rt: HostRuntime, kind: u8, s: &[u8], n: usize) -> Result<(), Error>
     requires { size_of (divided kind s.now) ≡ found n }
 {
     let mut at: usize = 0;
@@ -69,53 +77,51 @@ fn is_row_given(kind: u8, s: &[u8], n: usize) -> bool
         number += 1;
         match record_end(kind, s, at) {
             Measure::Size(e) => {
-                if !is_entry_given(kind, s, number, at, e) {
-                    return false;
-                }
+                is_entry_given(rt, kind, s, number, at, e)?;
                 at = e;
             }
-            Measure::No(_) => return false,
+            Measure::No(_) => unreachable!(),
         }
     }
-    true
+    Ok(())
 }
 
-fn list_row(kind: u8, s: &[u8], n: usize) -> u8
+fn list_row(rt: HostRuntime, kind: u8, s: &[u8], n: usize) -> u8
     requires { size_of (divided kind s.now) ≡ found n }
 {
-    if !is_row_given(kind, s, n) {
-        return unwritten();
+    match is_row_given(rt, kind, s, n) {
+        Ok(()) => write_listing(rt, b"", true),
+        Err(why) => unwritten(rt, why),
     }
-    write_listing(b"", true)
 }
 
-fn refuse_row(kind: u8, f: Refusal) -> u8 {
+fn refuse_row(rt: HostRuntime, kind: u8, f: Refusal) -> u8 {
     let mut line = [0u8; 131];
     let n = fit_refusal_line(kind, f, &mut line, 0);
-    write_listing(&line[..n], false)
+    write_listing(rt, &line[..n], false)
 }
 
-fn answer_row(kind: u8, s: &[u8], name: &[u8]) -> u8 {
+fn answer_row(rt: HostRuntime, kind: u8, s: &[u8], name: &[u8]) -> u8 {
     if s.len() > ROW_MOST {
-        return say(name, b": more than 1048576 bytes of records in a row\n");
+        return say(rt, name, b": more than 1048576 bytes of records in a row\n");
     }
     match count(kind, s) {
-        Measure::Size(n) => list_row(kind, s, n),
-        Measure::No(f) => refuse_row(kind, f),
+        Measure::Size(n) => list_row(rt, kind, s, n),
+        Measure::No(f) => refuse_row(rt, kind, f),
     }
 }
 
 // What is read is lent as a slice: the room for it is never looked at in a proof. With less room a row that is too long would be cut.
-fn answer_row_taken(kind: u8, room: &mut [u8], name: &[u8]) -> u8
+fn answer_row_taken(rt: HostRuntime, kind: u8, room: &mut [u8], name: &[u8]) -> u8
     requires { 1048577 ≤ length room.old }
 {
-    match take(room) {
-        Taken::Bytes(n) => answer_row(kind, &room[..n], name),
-        Taken::Failed => failed(name),
+    match take_input(rt, room) {
+        Taken::Bytes(n) => answer_row(rt, kind, &room[..n], name),
+        Taken::Failed(why) => failed(rt, name, why),
     }
 }
 
-pub fn answer_row_input(kind: u8, name: &[u8]) -> u8 {
+pub fn answer_row_input(rt: HostRuntime, kind: u8, name: &[u8]) -> u8 {
     let mut room = row_room();
-    answer_row_taken(kind, &mut room, name)
+    answer_row_taken(rt, kind, &mut room, name)
 }

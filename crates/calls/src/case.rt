@@ -1,6 +1,6 @@
 // What a case asks for.
 
-#[derive(Drop)]
+#[derive(Clone, Copy)]
 pub struct Case {
     pub kind: u8,
     // The code, or another number, that is put in place of the record's own.

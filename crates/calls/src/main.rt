@@ -1,6 +1,8 @@
 // Answers every case on standard input: two bytes that say how long it is, then the case, and then the next. A case is a record, a selector to
 // put in place of its own, and what is then asked of it: whether its unions match, what it is written as, its tail, a byte field and an item.
 // tests/vectors/README.md has the bytes of a case and the lines of an answer.
+#![tactic(auto)]
+
 mod asked;
 mod case;
 mod inside;

@@ -5,7 +5,7 @@ use mathlib.Core.Path.{◌≡◌, refl, sym, ap, ◌∙◌}
 use mathlib.Core.Bool.{Bool, true, false}
 use mathlib.Core.List.{List, [], ◌∷◌}
 use lib.Dec.{eqb}
-use borrow.Author.Tests.{eq-eqb, eqb-true}
+use borrow.Author.Tests.{eqb-true}
 use Rattle.faults.specs.declared.Refusal.{Refusal}
 use Rattle.faults.specs.Faults.{no_such_arm}
 use Rattle.wire.specs.declared.choice.Choice.{Choice}
@@ -13,11 +13,11 @@ use Rattle.wire.specs.declared.choice.Choice.TheVariants.{Nothing, The}
 use Rattle.wire.specs.declared.span.Span.{Span}
 use Rattle.wire.specs.Answers.{span_part}
 use Rattle.wire.specs.Bytes.{Bytes}
-use Rattle.wire.specs.Layout.{Layout, stop, arm}
-use Rattle.wire.specs.Records.{tag, span, found, refused, parsed}
+use Rattle.wire.specs.Layout.{stop, arm}
+use Rattle.wire.specs.Records.{span, found, refused, parsed}
 use Rattle.wire.specs.Reading.{list, read}
-use Rattle.wire.specs.Unions.{union, is_arm}
-use Rattle.wire.proofs.Leaves.{read_stop, list_found, list_refused}
+use Rattle.wire.specs.Unions.{is_arm}
+use Rattle.wire.proofs.Leaves.{list_found, list_refused}
 use Rattle.wire.proofs.Sound.{list_sound, read_sound}
 use Rattle.codes.proofs.Choices.{Each, Unmatched, nothing_chosen, chosen_has}
 use Rattle.format.specs.declared.list.ListOf.{ListOf}

@@ -1,18 +1,17 @@
 -- A record of kind 15 that was read holds the arm of its capability, and its list is that arm's: the items that its calls hand out are those of a legal
 -- list (`item_handed_out_is_legal` and its neighbours in attest, over every list). Assumes nothing.
 use Prim.Native.Nat.{ℕ}
-use mathlib.Core.Path.{◌≡◌, refl, sym, ap, ◌∙◌}
+use mathlib.Core.Path.{◌≡◌, refl, sym}
 use mathlib.Core.Bool.{true}
-use mathlib.Core.List.{List, [], ◌∷◌}
+use mathlib.Core.List.{List}
 use lib.Dec.{leb}
 use lib.ListN.{length}
 use Rattle.wire.specs.declared.choice.Choice.TheVariants.{The}
 use Rattle.wire.specs.Answers.{span_part}
 use Rattle.wire.specs.Bytes.{Bytes}
 use Rattle.wire.specs.Layout.{Layout, arm}
-use Rattle.wire.specs.Records.{Part, tag, parsed}
+use Rattle.wire.specs.Records.{parsed}
 use Rattle.wire.specs.Reading.{read}
-use Rattle.wire.specs.Grammar.{Spells, shown}
 use Rattle.wire.specs.Items.{ListPart, here, past_arm, past_number}
 use Rattle.wire.proofs.Prefix.{accepted_is_legal}
 use Rattle.format.specs.Kinds.{item_layout, most_items, tpml, tpmu_capabilities_arm, tpmu_capabilities_body, tpmu_capabilities, tpms_capability_data}

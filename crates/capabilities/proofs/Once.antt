@@ -62,17 +62,17 @@ tpmu_capabilities_once =
     ∷ holds cap_auth_policies TpmuCapabilities.AuthPolicies tpml_tagged_policy_once
     ∷ holds cap_act TpmuCapabilities.Act tpml_act_data_once
     ∷ [])
-    (λ u qs. elim u [
-      | TpmuCapabilities.Algs x ↦ rw (tpml_alg_property_once.back x qs)
-      | TpmuCapabilities.Handles x ↦ rw (tpml_handle_once.back x qs)
-      | TpmuCapabilities.Commands x ↦ rw (tpml_cca_once.back x qs)
-      | TpmuCapabilities.PpCommands x ↦ rw (tpml_cc_once.back x qs)
-      | TpmuCapabilities.AuditCommands x ↦ rw (tpml_cc_once.back x qs)
-      | TpmuCapabilities.Pcrs x ↦ rw (tpml_pcr_selection_once.back x qs)
-      | TpmuCapabilities.TpmProperties x ↦ rw (tpml_tagged_tpm_property_once.back x qs)
-      | TpmuCapabilities.EccCurves x ↦ rw (tpml_ecc_curve_once.back x qs)
-      | TpmuCapabilities.AuthPolicies x ↦ rw (tpml_tagged_policy_once.back x qs)
-      | TpmuCapabilities.Act x ↦ rw (tpml_act_data_once.back x qs)
+    (elim [
+      | TpmuCapabilities.Algs x ↦ λ qs. rw (tpml_alg_property_once.back x qs)
+      | TpmuCapabilities.Handles x ↦ λ qs. rw (tpml_handle_once.back x qs)
+      | TpmuCapabilities.Commands x ↦ λ qs. rw (tpml_cca_once.back x qs)
+      | TpmuCapabilities.PpCommands x ↦ λ qs. rw (tpml_cc_once.back x qs)
+      | TpmuCapabilities.AuditCommands x ↦ λ qs. rw (tpml_cc_once.back x qs)
+      | TpmuCapabilities.Pcrs x ↦ λ qs. rw (tpml_pcr_selection_once.back x qs)
+      | TpmuCapabilities.TpmProperties x ↦ λ qs. rw (tpml_tagged_tpm_property_once.back x qs)
+      | TpmuCapabilities.EccCurves x ↦ λ qs. rw (tpml_ecc_curve_once.back x qs)
+      | TpmuCapabilities.AuthPolicies x ↦ λ qs. rw (tpml_tagged_policy_once.back x qs)
+      | TpmuCapabilities.Act x ↦ λ qs. rw (tpml_act_data_once.back x qs)
     ])
 
 -- ---- kind 15

@@ -2,49 +2,49 @@
 use wire::span::Span;
 
 // TPML_ALG_PROPERTY.
-#[derive(Drop)]
+#[derive(Clone, Copy)]
 pub struct TpmlAlgProperty {
     pub items: Span,
 }
 
 // TPML_HANDLE.
-#[derive(Drop)]
+#[derive(Clone, Copy)]
 pub struct TpmlHandle {
     pub items: Span,
 }
 
 // TPML_CCA: command attributes.
-#[derive(Drop)]
+#[derive(Clone, Copy)]
 pub struct TpmlCca {
     pub items: Span,
 }
 
 // TPML_CC: command codes.
-#[derive(Drop)]
+#[derive(Clone, Copy)]
 pub struct TpmlCc {
     pub items: Span,
 }
 
 // TPML_TAGGED_TPM_PROPERTY.
-#[derive(Drop)]
+#[derive(Clone, Copy)]
 pub struct TpmlTaggedTpmProperty {
     pub items: Span,
 }
 
 // TPML_ECC_CURVE.
-#[derive(Drop)]
+#[derive(Clone, Copy)]
 pub struct TpmlEccCurve {
     pub items: Span,
 }
 
 // TPML_TAGGED_POLICY.
-#[derive(Drop)]
+#[derive(Clone, Copy)]
 pub struct TpmlTaggedPolicy {
     pub items: Span,
 }
 
 // TPML_ACT_DATA.
-#[derive(Drop)]
+#[derive(Clone, Copy)]
 pub struct TpmlActData {
     pub items: Span,
 }

@@ -20,13 +20,13 @@ use steps::walk::{Walk, judging, list_seeking, ready, seeking};
 use wire::measure::Measure;
 use wire::read::nothing_behind;
 
-#[derive(Drop)]
+#[derive(Clone, Copy)]
 pub struct TpmsCapabilityData {
     pub capability: TpmCap,
     pub data: TpmuCapabilities,
 }
 
-#[derive(Drop)]
+#[derive(Clone, Copy)]
 pub enum TpmsCapabilityDataRead {
     Found(TpmsCapabilityData, usize),
     No(Refusal),

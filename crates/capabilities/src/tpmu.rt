@@ -24,7 +24,7 @@ use wire::measure::Measure;
 use wire::span::Span;
 use wire::widen::wider;
 
-#[derive(Drop)]
+#[derive(Clone, Copy)]
 pub enum TpmuCapabilities {
     Algs(TpmlAlgProperty),
     Handles(TpmlHandle),
@@ -38,7 +38,7 @@ pub enum TpmuCapabilities {
     Act(TpmlActData),
 }
 
-#[derive(Drop)]
+#[derive(Clone, Copy)]
 pub enum TpmuCapabilitiesRead {
     Found(TpmuCapabilities, usize),
     No(Refusal),

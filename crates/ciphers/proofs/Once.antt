@@ -25,7 +25,7 @@ use Rattle.ciphers.specs.Answers.{tpmu_ha_answer, tpmu_sym_key_bits_answer, tpmu
 pub tpmu_ha_once : Once tpmu_ha_parts
 tpmu_ha_once = record {
   take = tagged (λ t. cond (eqb t null) (bare t TpmuHa.Null).take (holds t TpmuHa.Digest span_once).take);
-  back = λ u qs. elim u [ TpmuHa.Null ↦ refl | TpmuHa.Digest s ↦ rw (digest_not_empty (len_of s), span_once.back s qs) ];
+  back = elim [ TpmuHa.Null ↦ λ qs. refl | TpmuHa.Digest s ↦ λ qs. rw (digest_not_empty (len_of s), span_once.back s qs) ];
 }
 
 pub tpmu_sym_key_bits_once : Once tpmu_sym_key_bits_parts
@@ -37,12 +37,12 @@ tpmu_sym_key_bits_once =
     ∷ holds xor TpmuSymKeyBits.Xor tpm_alg_id_once
     ∷ bare null TpmuSymKeyBits.Null
     ∷ [])
-    (λ u qs. elim u [
-      | TpmuSymKeyBits.Aes x ↦ rw (number_once.back x qs)
-      | TpmuSymKeyBits.Sm4 x ↦ rw (number_once.back x qs)
-      | TpmuSymKeyBits.Camellia x ↦ rw (number_once.back x qs)
-      | TpmuSymKeyBits.Xor x ↦ rw (tpm_alg_id_once.back x qs)
-      | TpmuSymKeyBits.Null ↦ refl
+    (elim [
+      | TpmuSymKeyBits.Aes x ↦ λ qs. rw (number_once.back x qs)
+      | TpmuSymKeyBits.Sm4 x ↦ λ qs. rw (number_once.back x qs)
+      | TpmuSymKeyBits.Camellia x ↦ λ qs. rw (number_once.back x qs)
+      | TpmuSymKeyBits.Xor x ↦ λ qs. rw (tpm_alg_id_once.back x qs)
+      | TpmuSymKeyBits.Null ↦ λ qs. refl
     ])
 
 pub tpmu_sym_mode_once : Once tpmu_sym_mode_parts
@@ -53,11 +53,11 @@ tpmu_sym_mode_once =
     ∷ holds camellia TpmuSymMode.Camellia tpm_alg_id_once
     ∷ bare null TpmuSymMode.Null
     ∷ [])
-    (λ u qs. elim u [
-      | TpmuSymMode.Aes x ↦ rw (tpm_alg_id_once.back x qs)
-      | TpmuSymMode.Sm4 x ↦ rw (tpm_alg_id_once.back x qs)
-      | TpmuSymMode.Camellia x ↦ rw (tpm_alg_id_once.back x qs)
-      | TpmuSymMode.Null ↦ refl
+    (elim [
+      | TpmuSymMode.Aes x ↦ λ qs. rw (tpm_alg_id_once.back x qs)
+      | TpmuSymMode.Sm4 x ↦ λ qs. rw (tpm_alg_id_once.back x qs)
+      | TpmuSymMode.Camellia x ↦ λ qs. rw (tpm_alg_id_once.back x qs)
+      | TpmuSymMode.Null ↦ λ qs. refl
     ])
 
 -- ---- kinds 1 and 2

@@ -27,13 +27,13 @@ use steps::walk::{Walk, judging, ready, seeking};
 use wire::measure::Measure;
 use wire::read::nothing_behind;
 
-#[derive(Drop)]
+#[derive(Clone, Copy)]
 pub struct TpmtHa {
     pub hash_alg: TpmAlgId,
     pub digest: TpmuHa,
 }
 
-#[derive(Drop)]
+#[derive(Clone, Copy)]
 pub struct TpmtSymDef {
     pub algorithm: TpmAlgId,
     pub key_bits: TpmuSymKeyBits,
@@ -42,13 +42,13 @@ pub struct TpmtSymDef {
 
 pub type TpmtSymDefObject = TpmtSymDef;
 
-#[derive(Drop)]
+#[derive(Clone, Copy)]
 pub enum TpmtHaRead {
     Found(TpmtHa, usize),
     No(Refusal),
 }
 
-#[derive(Drop)]
+#[derive(Clone, Copy)]
 pub enum TpmtSymDefRead {
     Found(TpmtSymDef, usize),
     No(Refusal),

@@ -19,13 +19,13 @@ use wire::read::{SpanRead, plain};
 use wire::span::Span;
 use wire::widen::wide;
 
-#[derive(Drop)]
+#[derive(Clone, Copy)]
 pub enum TpmuHa {
     Null,
     Digest(Span),
 }
 
-#[derive(Drop)]
+#[derive(Clone, Copy)]
 pub enum TpmuSymKeyBits {
     Aes(u16),
     Sm4(u16),
@@ -34,7 +34,7 @@ pub enum TpmuSymKeyBits {
     Null,
 }
 
-#[derive(Drop)]
+#[derive(Clone, Copy)]
 pub enum TpmuSymMode {
     Aes(TpmAlgId),
     Sm4(TpmAlgId),
@@ -42,19 +42,19 @@ pub enum TpmuSymMode {
     Null,
 }
 
-#[derive(Drop)]
+#[derive(Clone, Copy)]
 pub enum TpmuHaRead {
     Found(TpmuHa, usize),
     No(Refusal),
 }
 
-#[derive(Drop)]
+#[derive(Clone, Copy)]
 pub enum TpmuSymKeyBitsRead {
     Found(TpmuSymKeyBits, usize),
     No(Refusal),
 }
 
-#[derive(Drop)]
+#[derive(Clone, Copy)]
 pub enum TpmuSymModeRead {
     Found(TpmuSymMode, usize),
     No(Refusal),

@@ -1,5 +1,7 @@
 // Codes: algorithms, curves and attestation types, of two bytes, capabilities and hierarchies, of four, and handle types, of one; and the tags of tickets. Each
 // sort of code is a type, so that none is taken for another; a tag has the type of the attestation types, as in Part 2.
+#![tactic(auto)]
+
 pub mod registry;
 pub mod uint;
 
@@ -14,26 +16,26 @@ use crate::uint::{Uint8Read, Uint16Read, Uint32Read, uint8, uint16, uint32};
 use faults::Refusal;
 use wire::widen::{wide, wide_byte, wider};
 
-#[derive(Drop)]
+#[derive(Clone, Copy)]
 pub struct TpmAlgId(pub u16);
 
-#[derive(Drop)]
+#[derive(Clone, Copy)]
 pub struct TpmEccCurve(pub u16);
 
-#[derive(Drop)]
+#[derive(Clone, Copy)]
 pub struct TpmSt(pub u16);
 
-#[derive(Drop)]
+#[derive(Clone, Copy)]
 pub struct TpmCap(pub u32);
 
-#[derive(Drop)]
+#[derive(Clone, Copy)]
 pub struct TpmHt(pub u8);
 
-#[derive(Drop)]
+#[derive(Clone, Copy)]
 pub struct TpmRh(pub u32);
 
 // The tickets, by what their tags say.
-#[derive(Drop)]
+#[derive(Clone, Copy)]
 pub enum Ticket {
     Creation,
     Verified,
@@ -41,44 +43,44 @@ pub enum Ticket {
     Auth,
 }
 
-#[derive(Drop)]
+#[derive(Clone, Copy)]
 pub enum TpmAlgIdRead {
     Found(TpmAlgId, usize),
     No(Refusal),
 }
 
-#[derive(Drop)]
+#[derive(Clone, Copy)]
 pub enum TpmEccCurveRead {
     Found(TpmEccCurve, usize),
     No(Refusal),
 }
 
-#[derive(Drop)]
+#[derive(Clone, Copy)]
 pub enum TpmStRead {
     Found(TpmSt, usize),
     No(Refusal),
 }
 
-#[derive(Drop)]
+#[derive(Clone, Copy)]
 pub enum TpmCapRead {
     Found(TpmCap, usize),
     No(Refusal),
 }
 
-#[derive(Drop)]
+#[derive(Clone, Copy)]
 pub enum TpmHtRead {
     Found(TpmHt, usize),
     No(Refusal),
 }
 
-#[derive(Drop)]
+#[derive(Clone, Copy)]
 pub enum TpmRhRead {
     Found(TpmRh, usize),
     No(Refusal),
 }
 
 // How long an algorithm's digest is. Null's is empty; an algorithm that is no hash has none.
-#[derive(Drop)]
+#[derive(Clone, Copy)]
 pub enum DigestLen {
     Bytes(u16),
     Empty,

@@ -9,19 +9,19 @@ use faults::Refusal;
 use wire::read::{NumberRead, number};
 use wire::width::Width;
 
-#[derive(Drop)]
+#[derive(Clone, Copy)]
 pub enum Uint8Read {
     Found(u8, usize),
     No(Refusal),
 }
 
-#[derive(Drop)]
+#[derive(Clone, Copy)]
 pub enum Uint16Read {
     Found(u16, usize),
     No(Refusal),
 }
 
-#[derive(Drop)]
+#[derive(Clone, Copy)]
 pub enum Uint32Read {
     Found(u32, usize),
     No(Refusal),

@@ -1,6 +1,8 @@
 // Lists every deposit on standard input: two bytes that say how long it is, then the deposit, and then the next. After the listing of a
 // record that was read comes the line `again`, with the bytes that it is written as: if its copy and the record written and read again have
 // the size that it measures, and read whole it has that size too or, with a tail, is Trailing there.
+#![tactic(auto)]
+
 use codes::uint::{Uint16Read, uint16};
 use copies::walk::{copy, measure};
 use listing::deposit::{LISTING_ROOM, list_deposit};

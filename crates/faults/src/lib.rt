@@ -1,10 +1,12 @@
 // Why something is refused. A refusal has a fault, a place, a value, and how many bytes it had; the format's number of each
 // fault and what its value and `had` say stand in specs/Faults.antt. Code builds a refusal by its name, below; only a walk
 // that keeps one as numbers builds it again from them (`Walk::answer` of steps).
+#![tactic(auto)]
+
 ghost use Rattle.std.specs.Prelude.{◌≡◌};
 ghost use Rattle.faults.specs.Faults.{paper, refusal, placed_at, short, unknown_code, no_such_arm, too_long, too_many_items, bad_value, mismatch, bad_span, no_room, no_field, trailing, bad_kind, oversize};
 
-#[derive(Drop)]
+#[derive(Clone, Copy)]
 pub enum Fault {
     Short,
     UnknownCode,
@@ -44,7 +46,7 @@ impl Fault {
     }
 }
 
-#[derive(Drop)]
+#[derive(Clone, Copy)]
 pub struct Refusal {
     pub fault: Fault,
     pub place: usize,

@@ -1,22 +1,18 @@
 -- The greatest record of each kind: no record is larger, and one is so large. Assumes nothing.
-use Prim.Native.Nat.{ℕ, zero, suc, ◌+◌, ◌^◌, ◌≤◌, ◌<◌}
+use Prim.Native.Nat.{ℕ, zero, suc, ◌^◌, ◌≤◌, ◌<◌}
 use native.Mathlib.Omega.{arith}
 use mathlib.Core.Path.{◌≡◌, refl}
-use mathlib.Core.Bool.{Bool, true, false, cond}
+use mathlib.Core.Bool.{true}
 use mathlib.Core.List.{List, [], ◌∷◌}
-use lib.Dec.{eqb}
 use lib.ListN.{get_or}
-use Rattle.wire.specs.declared.choice.Choice.{Choice}
-use Rattle.wire.specs.declared.choice.Choice.TheVariants.{Nothing, The}
-use Rattle.wire.specs.Layout.{Rule, allows, Layout, stop, no_arm, number, plain, one, free}
+use Rattle.wire.specs.Layout.{Rule, allows, Layout, no_arm, one, free}
 use Rattle.wire.specs.Sizes.{AtMost, Reaches, Greatest}
-use Rattle.wire.specs.Unions.{Row, body_of, union}
-use Rattle.wire.proofs.Sizes.{stop_most, no_arm_most, arm_most, number_most, plain_most, buffer_most, then_most, most_wider, stop_reaches, arm_reaches, number_reaches, plain_reaches, buffer_reaches, then_reaches}
+use Rattle.wire.proofs.Sizes.{stop_most, no_arm_most, buffer_most, then_most, most_wider, stop_reaches, arm_reaches, number_reaches, buffer_reaches, then_reaches}
 use Rattle.format.specs.declared.list.ListOf.{ListOf}
 use Rattle.format.specs.declared.list.ListOf.TheVariants.{AlgProperty, Handle, Cca, Cc, PcrSelection, TaggedTpmProperty, EccCurve, TaggedPolicy, ActData}
 use Rattle.codes.specs.declared.Ticket.TheVariants.{Creation, Verified, Hashcheck, Auth}
 use Rattle.codes.specs.Codes.{algorithms, attestations, caps, handle_types, hierarchies, is_algorithm, is_attestation, is_cap, is_handle_type, is_hierarchy, alg, curve, attestation, cap, handle_type, hierarchy, yes_no, magic, ticket_tag, cap_auth_policies, ht_external_nv, rh_owner, st_creation, st_verified, st_hashcheck, st_auth_signed}
-use Rattle.format.specs.Kinds.{tpmu_ha_table, tpmu_asym_scheme_table, tpmu_sig_scheme_table, tpmu_keyedhash_scheme_table, tpmu_kdf_scheme_table, tpmu_sym_key_bits_table, tpmu_sym_mode_table, tpmu_public_parms_table, tpmu_public_id_table, tpmu_sensitive_composite_table, tpmu_signature_table, tpmu_attest_table, tpmu_capabilities_table, tpmu_nv_public2_table, tpmu_ha_arm, tpmu_asym_scheme_arm, tpmu_sig_scheme_arm, tpmu_keyedhash_scheme_arm, tpmu_kdf_scheme_arm, tpmu_sym_key_bits_arm, tpmu_sym_mode_arm, tpmu_public_parms_arm, tpmu_public_id_arm, tpmu_sensitive_composite_arm, tpmu_signature_arm, tpmu_attest_arm, tpmu_capabilities_arm, tpmu_nv_public2_arm, tpms_scheme_hash, tpms_scheme_ecdaa, tpms_scheme_xor, tpmu_ha, tpmu_asym_scheme, tpmu_sig_scheme, tpmu_keyedhash_scheme, tpmu_kdf_scheme, tpmu_sym_key_bits, tpmu_sym_mode, tpmu_public_parms, tpmu_public_id, tpmu_sensitive_composite, tpmu_signature, tpmu_attest, tpmu_capabilities, tpmu_nv_public2, tpmt_ha, tpmt_sym_def, tpmt_kdf_scheme, tpmt_keyedhash_scheme, tpmt_sig_scheme, tpmt_asym_scheme, tpms_rsa_parms, tpms_ecc_parms, tpms_ecc_point, tpms_signature_rsa, tpms_signature_ecc, tpmt_public_parms, tpmt_signature, tpmt_public, tpmt_sensitive, tpml, tpml_pcr_selection, tpms_clock_info, tpms_certify_info, tpms_creation_info, tpms_quote_info, tpms_command_audit_info, tpms_session_audit_info, tpms_time_info, tpms_time_attest_info, tpms_nv_certify_info, tpms_nv_digest_certify_info, tpms_attest, tpms_capability_data, nv_public_tail, tpms_nv_public, tpms_nv_public_exp_attr, tpmt_nv_public2, ticket_body, ticket, tpmt_tk_creation, tpmt_tk_verified, tpmt_tk_hashcheck, tpmt_tk_auth, kinds, layout_of}
+use Rattle.format.specs.Kinds.{tpmu_asym_scheme_table, tpmu_sig_scheme_table, tpmu_keyedhash_scheme_table, tpmu_kdf_scheme_table, tpmu_sym_key_bits_table, tpmu_sym_mode_table, tpmu_public_parms_table, tpmu_public_id_table, tpmu_sensitive_composite_table, tpmu_signature_table, tpmu_attest_table, tpmu_capabilities_table, tpmu_nv_public2_table, tpmu_asym_scheme_arm, tpmu_sig_scheme_arm, tpmu_keyedhash_scheme_arm, tpmu_kdf_scheme_arm, tpmu_sym_key_bits_arm, tpmu_sym_mode_arm, tpmu_public_parms_arm, tpmu_public_id_arm, tpmu_sensitive_composite_arm, tpmu_signature_arm, tpmu_attest_arm, tpmu_capabilities_arm, tpmu_nv_public2_arm, tpms_scheme_hash, tpms_scheme_ecdaa, tpms_scheme_xor, tpmu_asym_scheme, tpmu_sig_scheme, tpmu_keyedhash_scheme, tpmu_kdf_scheme, tpmu_sym_key_bits, tpmu_sym_mode, tpmu_public_parms, tpmu_public_id, tpmu_sensitive_composite, tpmu_signature, tpmu_attest, tpmu_capabilities, tpmu_nv_public2, tpmt_sym_def, tpmt_kdf_scheme, tpmt_keyedhash_scheme, tpmt_sig_scheme, tpmt_asym_scheme, tpms_rsa_parms, tpms_ecc_parms, tpms_ecc_point, tpms_signature_rsa, tpms_signature_ecc, tpmt_public_parms, tpmt_signature, tpmt_public, tpmt_sensitive, tpml, tpml_pcr_selection, tpms_clock_info, tpms_certify_info, tpms_creation_info, tpms_quote_info, tpms_command_audit_info, tpms_session_audit_info, tpms_time_info, tpms_time_attest_info, tpms_nv_certify_info, tpms_nv_digest_certify_info, tpms_attest, tpms_capability_data, nv_public_tail, tpms_nv_public, tpms_nv_public_exp_attr, tpmt_nv_public2, ticket_body, ticket, tpmt_tk_creation, tpmt_tk_verified, tpmt_tk_hashcheck, tpmt_tk_auth, kinds, layout_of}
 use Rattle.format.specs.Sizes.{greatest, AllGreatest}
 use Rattle.format.proofs.Tables.{◌&◌}
 use Rattle.format.proofs.Bounds.{one_most, none_most, RowsMost, union_most, follows, ha_most, ha_reaches}

@@ -5,7 +5,7 @@ use mathlib.Core.Path.{◌≡◌, refl}
 use mathlib.Core.Bool.{true}
 use mathlib.Core.List.{List}
 use lib.ListN.{length}
-use Rattle.wire.specs.Layout.{stop, free}
+use Rattle.wire.specs.Layout.{free}
 use Rattle.wire.specs.Grammar.{Token, Spells}
 use Rattle.wire.specs.Sizes.{AtMost, Reaches, Greatest}
 use Rattle.wire.proofs.Begun.{begins, begins_some}

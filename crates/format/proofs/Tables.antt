@@ -8,7 +8,7 @@ use lib.Dec.{eqb}
 use borrow.Author.Tests.{ne_eqb, leb-true}
 use Rattle.wire.specs.declared.choice.Choice.{Choice}
 use Rattle.wire.specs.declared.choice.Choice.TheVariants.{Nothing, The}
-use Rattle.wire.specs.Layout.{Layout, stop, plain}
+use Rattle.wire.specs.Layout.{stop, plain}
 use Rattle.wire.specs.Unions.{Row}
 use Rattle.format.specs.Kinds.{digest_of, digest_size, tpms_scheme_hash, tpmu_ha_table, tpmu_asym_scheme_table, tpmu_sig_scheme_table, tpmu_keyedhash_scheme_table, tpmu_kdf_scheme_table, tpmu_sym_key_bits_table, tpmu_sym_mode_table, tpmu_public_parms_table, tpmu_public_id_table, tpmu_sensitive_composite_table, tpmu_signature_table, tpmu_attest_table, tpmu_capabilities_table, tpmu_nv_public2_table, tpmu_ha_arm, tpmu_ha_body, tpmu_sig_scheme_arm, tpmu_sig_scheme_body, tpmu_public_parms_arm, tpmu_public_id_arm, tpmu_attest_arm, tpmu_capabilities_arm}
 use Rattle.codes.specs.Codes.{null, ecdaa, member, attestations, caps, is_attestation, is_cap, cap_pcr_properties}

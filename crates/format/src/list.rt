@@ -2,7 +2,7 @@
 ghost use Rattle.std.specs.Prelude.{◌≡◌};
 ghost use Rattle.format.specs.Kinds.{most_items};
 
-#[derive(Drop)]
+#[derive(Clone, Copy)]
 pub enum ListOf {
     AlgProperty,
     Handle,

@@ -36,7 +36,7 @@ fn attest_tried(case: u64, x: TpmsAttest, src: &[u8]) {
 }
 
 // What differs from case to case.
-#[derive(Drop)]
+#[derive(Clone, Copy)]
 struct Changes {
     magic: u32,
     attest_type: u16,

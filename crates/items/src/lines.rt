@@ -20,7 +20,7 @@ use text::line::Word;
 use wire::width::Width;
 
 // What the lines of an item leave: the walk, and where the next item stands.
-#[derive(Drop)]
+#[derive(Clone, Copy)]
 pub struct ItemLines {
     pub walk: Walk,
     pub end: usize,

@@ -13,66 +13,66 @@ use wire::span::Span;
 use wire::width::Width;
 
 // TPMS_PCR_SELECTION: a bank, and the bits of its registers.
-#[derive(Drop)]
+#[derive(Clone, Copy)]
 pub struct TpmsPcrSelection {
     pub hash: TpmAlgId,
     pub pcr_select: Span,
 }
 
-#[derive(Drop)]
+#[derive(Clone, Copy)]
 pub enum TpmsPcrSelectionRead {
     Found(TpmsPcrSelection, usize),
     No(Refusal),
 }
 
 // TPMS_ALG_PROPERTY: an algorithm and its attributes.
-#[derive(Drop)]
+#[derive(Clone, Copy)]
 pub struct TpmsAlgProperty {
     pub alg: TpmAlgId,
     pub alg_properties: u32,
 }
 
-#[derive(Drop)]
+#[derive(Clone, Copy)]
 pub enum TpmsAlgPropertyRead {
     Found(TpmsAlgProperty, usize),
     No(Refusal),
 }
 
 // TPMS_TAGGED_PROPERTY: a tag and a value, both any number.
-#[derive(Drop)]
+#[derive(Clone, Copy)]
 pub struct TpmsTaggedProperty {
     pub property: u32,
     pub value: u32,
 }
 
-#[derive(Drop)]
+#[derive(Clone, Copy)]
 pub enum TpmsTaggedPropertyRead {
     Found(TpmsTaggedProperty, usize),
     No(Refusal),
 }
 
 // TPMS_TAGGED_POLICY: a handle, and the digest of its policy.
-#[derive(Drop)]
+#[derive(Clone, Copy)]
 pub struct TpmsTaggedPolicy {
     pub handle: u32,
     pub policy_hash: TpmtHa,
 }
 
-#[derive(Drop)]
+#[derive(Clone, Copy)]
 pub enum TpmsTaggedPolicyRead {
     Found(TpmsTaggedPolicy, usize),
     No(Refusal),
 }
 
 // TPMS_ACT_DATA: a timer's handle, its timeout and its attributes.
-#[derive(Drop)]
+#[derive(Clone, Copy)]
 pub struct TpmsActData {
     pub handle: u32,
     pub timeout: u32,
     pub attributes: u32,
 }
 
-#[derive(Drop)]
+#[derive(Clone, Copy)]
 pub enum TpmsActDataRead {
     Found(TpmsActData, usize),
     No(Refusal),

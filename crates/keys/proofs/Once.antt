@@ -30,12 +30,12 @@ tpmu_public_id_once =
     ∷ holds ecc TpmuPublicId.Ecc tpms_ecc_point_once
     ∷ bare null TpmuPublicId.Null
     ∷ [])
-    (λ u qs. elim u [
-      | TpmuPublicId.KeyedHash x ↦ rw (span_once.back x qs)
-      | TpmuPublicId.SymCipher x ↦ rw (span_once.back x qs)
-      | TpmuPublicId.Rsa x ↦ rw (span_once.back x qs)
-      | TpmuPublicId.Ecc x ↦ rw (tpms_ecc_point_once.back x qs)
-      | TpmuPublicId.Null ↦ refl
+    (elim [
+      | TpmuPublicId.KeyedHash x ↦ λ qs. rw (span_once.back x qs)
+      | TpmuPublicId.SymCipher x ↦ λ qs. rw (span_once.back x qs)
+      | TpmuPublicId.Rsa x ↦ λ qs. rw (span_once.back x qs)
+      | TpmuPublicId.Ecc x ↦ λ qs. rw (tpms_ecc_point_once.back x qs)
+      | TpmuPublicId.Null ↦ λ qs. refl
     ])
 
 -- ---- kind 11

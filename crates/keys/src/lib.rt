@@ -1,4 +1,6 @@
 // The public area: kind 11. Files and names are the Rust crate's.
+#![tactic(auto)]
+
 pub mod tpms;
 pub mod tpmt;
 pub mod tpmu;

@@ -13,13 +13,13 @@ use wire::read::{SpanRead, buffer};
 use wire::span::Span;
 use wire::width::Width;
 
-#[derive(Drop)]
+#[derive(Clone, Copy)]
 pub struct TpmsEccPoint {
     pub x: Span,
     pub y: Span,
 }
 
-#[derive(Drop)]
+#[derive(Clone, Copy)]
 pub enum TpmsEccPointRead {
     Found(TpmsEccPoint, usize),
     No(Refusal),

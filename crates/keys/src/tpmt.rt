@@ -26,10 +26,10 @@ use wire::span::Span;
 use wire::width::Width;
 
 // The attributes of an object, as they stand.
-#[derive(Drop)]
+#[derive(Clone, Copy)]
 pub struct TpmaObject(pub u32);
 
-#[derive(Drop)]
+#[derive(Clone, Copy)]
 pub struct TpmtPublic {
     pub object_type: TpmAlgId,
     pub name_alg: TpmAlgId,
@@ -39,7 +39,7 @@ pub struct TpmtPublic {
     pub unique: TpmuPublicId,
 }
 
-#[derive(Drop)]
+#[derive(Clone, Copy)]
 pub enum TpmtPublicRead {
     Found(TpmtPublic, usize),
     No(Refusal),

@@ -18,7 +18,7 @@ use wire::span::Span;
 use wire::widen::wide;
 use wire::width::Width;
 
-#[derive(Drop)]
+#[derive(Clone, Copy)]
 pub enum TpmuPublicId {
     KeyedHash(Span),
     SymCipher(Span),
@@ -27,7 +27,7 @@ pub enum TpmuPublicId {
     Null,
 }
 
-#[derive(Drop)]
+#[derive(Clone, Copy)]
 pub enum TpmuPublicIdRead {
     Found(TpmuPublicId, usize),
     No(Refusal),

@@ -15,8 +15,8 @@ use Rattle.wire.specs.declared.measure.Measure.{Measure}
 use Rattle.wire.specs.declared.span.Span.{Span}
 use Rattle.wire.specs.Answers.{start_of, len_of, measure_answer}
 use Rattle.wire.specs.Bytes.{Bytes, be}
-use Rattle.wire.specs.Layout.{free, length_to, one}
-use Rattle.wire.specs.Lines.{line, a_code, a_number, span_line, lines, of_read}
+use Rattle.wire.specs.Layout.{free, one}
+use Rattle.wire.specs.Lines.{line, a_number, lines, of_read}
 use Rattle.wire.specs.Records.{Part, num, tag, span, Ans, found, refused, next, left, Parsed, parsed}
 use Rattle.wire.specs.Reading.{Reader, piece, field, walk, list, end_of, read}
 use Rattle.wire.specs.Writing.{cut, whole, moved, further}
@@ -25,7 +25,7 @@ use Rattle.wire.proofs.Cuts.{sized_part, unsized}
 use Rattle.wire.proofs.Rest.{told}
 use Rattle.wire.proofs.Sound.{list_sound, read_sound}
 use Rattle.wire.proofs.Stand.{stands_left, stands_bytes}
-use Rattle.wire.proofs.Steps.{found_refused, found_same, parsed_same, next_found, when_found, field_found}
+use Rattle.wire.proofs.Steps.{found_refused, found_same, parsed_same, next_found, when_found}
 use Rattle.wire.proofs.Then.{whole_same}
 use Rattle.wire.proofs.Written.{moved_found, cut_found}
 use Rattle.format.specs.declared.list.ListOf.{ListOf}

@@ -20,7 +20,7 @@ use wire::measure::Measure;
 use wire::span::Span;
 
 // Where an item stands, or why there is none.
-#[derive(Drop)]
+#[derive(Clone, Copy)]
 pub(crate) enum Place {
     At(Span),
     No(Refusal),

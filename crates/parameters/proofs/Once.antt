@@ -41,12 +41,12 @@ tpmu_public_parms_once =
     ∷ holds ecc TpmuPublicParms.Ecc tpms_ecc_parms_once
     ∷ bare null TpmuPublicParms.Null
     ∷ [])
-    (λ u qs. elim u [
-      | TpmuPublicParms.KeyedHash x ↦ rw (tpms_keyedhash_parms_once.back x qs)
-      | TpmuPublicParms.SymCipher x ↦ rw (tpms_symcipher_parms_once.back x qs)
-      | TpmuPublicParms.Rsa x ↦ rw (tpms_rsa_parms_once.back x qs)
-      | TpmuPublicParms.Ecc x ↦ rw (tpms_ecc_parms_once.back x qs)
-      | TpmuPublicParms.Null ↦ refl
+    (elim [
+      | TpmuPublicParms.KeyedHash x ↦ λ qs. rw (tpms_keyedhash_parms_once.back x qs)
+      | TpmuPublicParms.SymCipher x ↦ λ qs. rw (tpms_symcipher_parms_once.back x qs)
+      | TpmuPublicParms.Rsa x ↦ λ qs. rw (tpms_rsa_parms_once.back x qs)
+      | TpmuPublicParms.Ecc x ↦ λ qs. rw (tpms_ecc_parms_once.back x qs)
+      | TpmuPublicParms.Null ↦ λ qs. refl
     ])
 
 -- ---- kind 9

@@ -16,17 +16,17 @@ use schemes::tpmt::{
 };
 use steps::walk::Walk;
 
-#[derive(Drop)]
+#[derive(Clone, Copy)]
 pub struct TpmsKeyedhashParms {
     pub scheme: TpmtKeyedhashScheme,
 }
 
-#[derive(Drop)]
+#[derive(Clone, Copy)]
 pub struct TpmsSymcipherParms {
     pub sym: TpmtSymDef,
 }
 
-#[derive(Drop)]
+#[derive(Clone, Copy)]
 pub struct TpmsRsaParms {
     pub symmetric: TpmtSymDef,
     pub scheme: TpmtRsaScheme,
@@ -34,7 +34,7 @@ pub struct TpmsRsaParms {
     pub exponent: u32,
 }
 
-#[derive(Drop)]
+#[derive(Clone, Copy)]
 pub struct TpmsEccParms {
     pub symmetric: TpmtSymDef,
     pub scheme: TpmtEccScheme,
@@ -42,25 +42,25 @@ pub struct TpmsEccParms {
     pub kdf: TpmtKdfScheme,
 }
 
-#[derive(Drop)]
+#[derive(Clone, Copy)]
 pub enum TpmsKeyedhashParmsRead {
     Found(TpmsKeyedhashParms, usize),
     No(Refusal),
 }
 
-#[derive(Drop)]
+#[derive(Clone, Copy)]
 pub enum TpmsSymcipherParmsRead {
     Found(TpmsSymcipherParms, usize),
     No(Refusal),
 }
 
-#[derive(Drop)]
+#[derive(Clone, Copy)]
 pub enum TpmsRsaParmsRead {
     Found(TpmsRsaParms, usize),
     No(Refusal),
 }
 
-#[derive(Drop)]
+#[derive(Clone, Copy)]
 pub enum TpmsEccParmsRead {
     Found(TpmsEccParms, usize),
     No(Refusal),

@@ -19,13 +19,13 @@ use steps::walk::{Walk, judging, ready, seeking};
 use wire::measure::Measure;
 use wire::read::nothing_behind;
 
-#[derive(Drop)]
+#[derive(Clone, Copy)]
 pub struct TpmtPublicParms {
     pub object_type: TpmAlgId,
     pub parameters: TpmuPublicParms,
 }
 
-#[derive(Drop)]
+#[derive(Clone, Copy)]
 pub enum TpmtPublicParmsRead {
     Found(TpmtPublicParms, usize),
     No(Refusal),

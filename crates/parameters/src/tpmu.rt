@@ -17,7 +17,7 @@ use format::arms::public_parms_arm;
 use steps::walk::Walk;
 use wire::widen::wide;
 
-#[derive(Drop)]
+#[derive(Clone, Copy)]
 pub enum TpmuPublicParms {
     KeyedHash(TpmsKeyedhashParms),
     SymCipher(TpmsSymcipherParms),
@@ -26,7 +26,7 @@ pub enum TpmuPublicParms {
     Null,
 }
 
-#[derive(Drop)]
+#[derive(Clone, Copy)]
 pub enum TpmuPublicParmsRead {
     Found(TpmuPublicParms, usize),
     No(Refusal),

@@ -1,13 +1,10 @@
 -- Where a record ends, by its kind's number: from the equation with the reader to what it says in the grammar's words. Assumes nothing.
-use Prim.Native.Nat.{ℕ, ◌+◌, ◌-◌, ◌≤◌}
+use Prim.Native.Nat.{ℕ, ◌+◌}
 use mathlib.Core.Path.{◌≡◌, refl, sym, ap, ◌∙◌}
-use mathlib.Core.Logic.{◌⊎◌}
 use mathlib.Core.Bool.{true}
-use mathlib.Core.List.{List, ◌∷◌, ◌++◌}
-use lib.ListN.{length, drop}
-use Rattle.faults.specs.declared.Fault.TheVariants.{Short}
+use mathlib.Core.List.{List}
+use lib.ListN.{length}
 use Rattle.faults.specs.declared.Refusal.{Refusal}
-use Rattle.faults.specs.Faults.{short}
 use Rattle.wire.specs.declared.measure.Measure.{Measure}
 use Rattle.wire.specs.Answers.{measure_answer}
 use Rattle.wire.specs.Bytes.{Bytes}
@@ -15,7 +12,7 @@ use Rattle.wire.specs.Layout.{Layout}
 use Rattle.wire.specs.Records.{Ans, found, refused, Parsed}
 use Rattle.wire.specs.Reading.{read, end_of}
 use Rattle.wire.specs.Grammar.{Token, Spells, Stands, Starts}
-use Rattle.wire.specs.Editions.{Later, Ours, Newer, Foreign}
+use Rattle.wire.specs.Editions.{Later, Ours, Foreign}
 use Rattle.wire.proofs.Answers.{measure_answer_once}
 use Rattle.wire.proofs.Steps.{found_refused, found_same, refused_same, next_found}
 use Rattle.wire.proofs.Ours.{ours_kept, ours_is_read, not_ours_is_refused}

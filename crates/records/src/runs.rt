@@ -50,7 +50,7 @@ fn put_ends(kind: u8, s: &[u8], ends: &mut [usize])
 {
     let mut start: usize = 0;
     let mut i: usize = 0;
-    while left(s.len(), start) > 0 {
+    'cells: while left(s.len(), start) > 0 {
         match record_end(kind, s, start) {
             Measure::Size(e) => {
                 ends[i] = e;

@@ -2,6 +2,8 @@
 // are lent for the ends, and a row: records of that kind, one behind the other, or what is not quite that. Said of it is how many records it
 // is and where each ends, or why it is no row of them; and then each record is listed. tests/vectors/README.md has the bytes of a case and the
 // lines of an answer.
+#![tactic(auto)]
+
 mod listed;
 mod said;
 

@@ -45,10 +45,10 @@ tpmu_asym_scheme_once =
     ∷ holds ecdaa TpmuAsymScheme.Ecdaa tpms_scheme_ecdaa_once
     ∷ bare null TpmuAsymScheme.Null
     ∷ [])
-    (λ u qs. elim u [
-      | TpmuAsymScheme.Hash x ↦ rw (tpms_scheme_hash_once.back x qs)
-      | TpmuAsymScheme.Ecdaa x ↦ rw (tpms_scheme_ecdaa_once.back x qs)
-      | TpmuAsymScheme.Null ↦ refl
+    (elim [
+      | TpmuAsymScheme.Hash x ↦ λ qs. rw (tpms_scheme_hash_once.back x qs)
+      | TpmuAsymScheme.Ecdaa x ↦ λ qs. rw (tpms_scheme_ecdaa_once.back x qs)
+      | TpmuAsymScheme.Null ↦ λ qs. refl
     ])
 
 pub tpmu_sig_scheme_once : Once tpmu_sig_scheme_parts
@@ -59,11 +59,11 @@ tpmu_sig_scheme_once =
     ∷ holds ecdaa TpmuSigScheme.Ecdaa tpms_scheme_ecdaa_once
     ∷ bare null TpmuSigScheme.Null
     ∷ [])
-    (λ u qs. elim u [
-      | TpmuSigScheme.Hash x ↦ rw (tpms_scheme_hash_once.back x qs)
-      | TpmuSigScheme.Hmac x ↦ rw (tpms_scheme_hash_once.back x qs)
-      | TpmuSigScheme.Ecdaa x ↦ rw (tpms_scheme_ecdaa_once.back x qs)
-      | TpmuSigScheme.Null ↦ refl
+    (elim [
+      | TpmuSigScheme.Hash x ↦ λ qs. rw (tpms_scheme_hash_once.back x qs)
+      | TpmuSigScheme.Hmac x ↦ λ qs. rw (tpms_scheme_hash_once.back x qs)
+      | TpmuSigScheme.Ecdaa x ↦ λ qs. rw (tpms_scheme_ecdaa_once.back x qs)
+      | TpmuSigScheme.Null ↦ λ qs. refl
     ])
 
 pub tpmu_keyedhash_scheme_once : Once tpmu_keyedhash_scheme_parts
@@ -73,10 +73,10 @@ tpmu_keyedhash_scheme_once =
     ∷ holds xor TpmuKeyedhashScheme.Xor tpms_scheme_xor_once
     ∷ bare null TpmuKeyedhashScheme.Null
     ∷ [])
-    (λ u qs. elim u [
-      | TpmuKeyedhashScheme.Hmac x ↦ rw (tpms_scheme_hash_once.back x qs)
-      | TpmuKeyedhashScheme.Xor x ↦ rw (tpms_scheme_xor_once.back x qs)
-      | TpmuKeyedhashScheme.Null ↦ refl
+    (elim [
+      | TpmuKeyedhashScheme.Hmac x ↦ λ qs. rw (tpms_scheme_hash_once.back x qs)
+      | TpmuKeyedhashScheme.Xor x ↦ λ qs. rw (tpms_scheme_xor_once.back x qs)
+      | TpmuKeyedhashScheme.Null ↦ λ qs. refl
     ])
 
 pub tpmu_kdf_scheme_once : Once tpmu_kdf_scheme_parts
@@ -88,12 +88,12 @@ tpmu_kdf_scheme_once =
     ∷ holds kdf1_sp800_108 TpmuKdfScheme.Kdf1Sp800_108 tpms_scheme_hash_once
     ∷ bare null TpmuKdfScheme.Null
     ∷ [])
-    (λ u qs. elim u [
-      | TpmuKdfScheme.Mgf1 x ↦ rw (tpms_scheme_hash_once.back x qs)
-      | TpmuKdfScheme.Kdf1Sp800_56a x ↦ rw (tpms_scheme_hash_once.back x qs)
-      | TpmuKdfScheme.Kdf2 x ↦ rw (tpms_scheme_hash_once.back x qs)
-      | TpmuKdfScheme.Kdf1Sp800_108 x ↦ rw (tpms_scheme_hash_once.back x qs)
-      | TpmuKdfScheme.Null ↦ refl
+    (elim [
+      | TpmuKdfScheme.Mgf1 x ↦ λ qs. rw (tpms_scheme_hash_once.back x qs)
+      | TpmuKdfScheme.Kdf1Sp800_56a x ↦ λ qs. rw (tpms_scheme_hash_once.back x qs)
+      | TpmuKdfScheme.Kdf2 x ↦ λ qs. rw (tpms_scheme_hash_once.back x qs)
+      | TpmuKdfScheme.Kdf1Sp800_108 x ↦ λ qs. rw (tpms_scheme_hash_once.back x qs)
+      | TpmuKdfScheme.Null ↦ λ qs. refl
     ])
 
 -- ---- kinds 3 to 8

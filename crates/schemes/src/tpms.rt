@@ -11,38 +11,38 @@ use codes::{TpmAlgId, TpmAlgIdRead};
 use faults::Refusal;
 use steps::walk::Walk;
 
-#[derive(Drop)]
+#[derive(Clone, Copy)]
 pub struct TpmsSchemeHash {
     pub hash_alg: TpmAlgId,
 }
 
 pub type TpmsSchemeHmac = TpmsSchemeHash;
 
-#[derive(Drop)]
+#[derive(Clone, Copy)]
 pub struct TpmsSchemeEcdaa {
     pub hash_alg: TpmAlgId,
     pub count: u16,
 }
 
-#[derive(Drop)]
+#[derive(Clone, Copy)]
 pub struct TpmsSchemeXor {
     pub hash_alg: TpmAlgId,
     pub kdf: TpmAlgId,
 }
 
-#[derive(Drop)]
+#[derive(Clone, Copy)]
 pub enum TpmsSchemeHashRead {
     Found(TpmsSchemeHash, usize),
     No(Refusal),
 }
 
-#[derive(Drop)]
+#[derive(Clone, Copy)]
 pub enum TpmsSchemeEcdaaRead {
     Found(TpmsSchemeEcdaa, usize),
     No(Refusal),
 }
 
-#[derive(Drop)]
+#[derive(Clone, Copy)]
 pub enum TpmsSchemeXorRead {
     Found(TpmsSchemeXor, usize),
     No(Refusal),

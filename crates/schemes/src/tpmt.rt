@@ -22,73 +22,73 @@ use steps::walk::{Walk, judging, ready, seeking};
 use wire::measure::Measure;
 use wire::read::nothing_behind;
 
-#[derive(Drop)]
+#[derive(Clone, Copy)]
 pub struct TpmtKdfScheme {
     pub scheme: TpmAlgId,
     pub details: TpmuKdfScheme,
 }
 
-#[derive(Drop)]
+#[derive(Clone, Copy)]
 pub struct TpmtKeyedhashScheme {
     pub scheme: TpmAlgId,
     pub details: TpmuKeyedhashScheme,
 }
 
-#[derive(Drop)]
+#[derive(Clone, Copy)]
 pub struct TpmtSigScheme {
     pub scheme: TpmAlgId,
     pub details: TpmuSigScheme,
 }
 
-#[derive(Drop)]
+#[derive(Clone, Copy)]
 pub struct TpmtRsaScheme {
     pub scheme: TpmAlgId,
     pub details: TpmuAsymScheme,
 }
 
-#[derive(Drop)]
+#[derive(Clone, Copy)]
 pub struct TpmtEccScheme {
     pub scheme: TpmAlgId,
     pub details: TpmuAsymScheme,
 }
 
-#[derive(Drop)]
+#[derive(Clone, Copy)]
 pub struct TpmtRsaDecrypt {
     pub scheme: TpmAlgId,
     pub details: TpmuAsymScheme,
 }
 
-#[derive(Drop)]
+#[derive(Clone, Copy)]
 pub enum TpmtKdfSchemeRead {
     Found(TpmtKdfScheme, usize),
     No(Refusal),
 }
 
-#[derive(Drop)]
+#[derive(Clone, Copy)]
 pub enum TpmtKeyedhashSchemeRead {
     Found(TpmtKeyedhashScheme, usize),
     No(Refusal),
 }
 
-#[derive(Drop)]
+#[derive(Clone, Copy)]
 pub enum TpmtSigSchemeRead {
     Found(TpmtSigScheme, usize),
     No(Refusal),
 }
 
-#[derive(Drop)]
+#[derive(Clone, Copy)]
 pub enum TpmtRsaSchemeRead {
     Found(TpmtRsaScheme, usize),
     No(Refusal),
 }
 
-#[derive(Drop)]
+#[derive(Clone, Copy)]
 pub enum TpmtEccSchemeRead {
     Found(TpmtEccScheme, usize),
     No(Refusal),
 }
 
-#[derive(Drop)]
+#[derive(Clone, Copy)]
 pub enum TpmtRsaDecryptRead {
     Found(TpmtRsaDecrypt, usize),
     No(Refusal),

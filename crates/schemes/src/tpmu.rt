@@ -18,21 +18,21 @@ use steps::walk::Walk;
 use wire::choice::Choice;
 use wire::widen::wide;
 
-#[derive(Drop)]
+#[derive(Clone, Copy)]
 pub enum TpmuAsymScheme {
     Hash(TpmsSchemeHash),
     Ecdaa(TpmsSchemeEcdaa),
     Null,
 }
 
-#[derive(Drop)]
+#[derive(Clone, Copy)]
 pub enum TpmuKeyedhashScheme {
     Hmac(TpmsSchemeHash),
     Xor(TpmsSchemeXor),
     Null,
 }
 
-#[derive(Drop)]
+#[derive(Clone, Copy)]
 pub enum TpmuSigScheme {
     Hash(TpmsSchemeHash),
     Hmac(TpmsSchemeHmac),
@@ -40,7 +40,7 @@ pub enum TpmuSigScheme {
     Null,
 }
 
-#[derive(Drop)]
+#[derive(Clone, Copy)]
 pub enum TpmuKdfScheme {
     Mgf1(TpmsSchemeHash),
     Kdf1Sp800_56a(TpmsSchemeHash),
@@ -49,25 +49,25 @@ pub enum TpmuKdfScheme {
     Null,
 }
 
-#[derive(Drop)]
+#[derive(Clone, Copy)]
 pub enum TpmuAsymSchemeRead {
     Found(TpmuAsymScheme, usize),
     No(Refusal),
 }
 
-#[derive(Drop)]
+#[derive(Clone, Copy)]
 pub enum TpmuKeyedhashSchemeRead {
     Found(TpmuKeyedhashScheme, usize),
     No(Refusal),
 }
 
-#[derive(Drop)]
+#[derive(Clone, Copy)]
 pub enum TpmuSigSchemeRead {
     Found(TpmuSigScheme, usize),
     No(Refusal),
 }
 
-#[derive(Drop)]
+#[derive(Clone, Copy)]
 pub enum TpmuKdfSchemeRead {
     Found(TpmuKdfScheme, usize),
     No(Refusal),

@@ -18,11 +18,11 @@ tpmu_sensitive_composite_once =
     ∷ holds keyed_hash TpmuSensitiveComposite.Bits span_once
     ∷ holds sym_cipher TpmuSensitiveComposite.Sym span_once
     ∷ [])
-    (λ u qs. elim u [
-      | TpmuSensitiveComposite.Rsa x ↦ rw (span_once.back x qs)
-      | TpmuSensitiveComposite.Ecc x ↦ rw (span_once.back x qs)
-      | TpmuSensitiveComposite.Bits x ↦ rw (span_once.back x qs)
-      | TpmuSensitiveComposite.Sym x ↦ rw (span_once.back x qs)
+    (elim [
+      | TpmuSensitiveComposite.Rsa x ↦ λ qs. rw (span_once.back x qs)
+      | TpmuSensitiveComposite.Ecc x ↦ λ qs. rw (span_once.back x qs)
+      | TpmuSensitiveComposite.Bits x ↦ λ qs. rw (span_once.back x qs)
+      | TpmuSensitiveComposite.Sym x ↦ λ qs. rw (span_once.back x qs)
     ])
 
 pub tpmt_sensitive_once : Once tpmt_sensitive_parts

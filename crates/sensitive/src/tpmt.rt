@@ -22,7 +22,7 @@ use wire::read::{SpanRead, buffer, nothing_behind};
 use wire::span::Span;
 use wire::width::Width;
 
-#[derive(Drop)]
+#[derive(Clone, Copy)]
 pub struct TpmtSensitive {
     pub sensitive_type: TpmAlgId,
     pub auth_value: Span,
@@ -30,7 +30,7 @@ pub struct TpmtSensitive {
     pub sensitive: TpmuSensitiveComposite,
 }
 
-#[derive(Drop)]
+#[derive(Clone, Copy)]
 pub enum TpmtSensitiveRead {
     Found(TpmtSensitive, usize),
     No(Refusal),

@@ -17,7 +17,7 @@ use wire::span::Span;
 use wire::widen::wide;
 use wire::width::Width;
 
-#[derive(Drop)]
+#[derive(Clone, Copy)]
 pub enum TpmuSensitiveComposite {
     Rsa(Span),
     Ecc(Span),
@@ -25,7 +25,7 @@ pub enum TpmuSensitiveComposite {
     Sym(Span),
 }
 
-#[derive(Drop)]
+#[derive(Clone, Copy)]
 pub enum TpmuSensitiveCompositeRead {
     Found(TpmuSensitiveComposite, usize),
     No(Refusal),

@@ -35,15 +35,15 @@ tpmu_signature_once =
     ∷ holds hmac TpmuSignature.Hmac tpmt_ha_once
     ∷ bare null TpmuSignature.Null
     ∷ [])
-    (λ u qs. elim u [
-      | TpmuSignature.Rsassa x ↦ rw (tpms_signature_rsa_once.back x qs)
-      | TpmuSignature.Rsapss x ↦ rw (tpms_signature_rsa_once.back x qs)
-      | TpmuSignature.Ecdsa x ↦ rw (tpms_signature_ecc_once.back x qs)
-      | TpmuSignature.Ecdaa x ↦ rw (tpms_signature_ecc_once.back x qs)
-      | TpmuSignature.Sm2 x ↦ rw (tpms_signature_ecc_once.back x qs)
-      | TpmuSignature.Ecschnorr x ↦ rw (tpms_signature_ecc_once.back x qs)
-      | TpmuSignature.Hmac x ↦ rw (tpmt_ha_once.back x qs)
-      | TpmuSignature.Null ↦ refl
+    (elim [
+      | TpmuSignature.Rsassa x ↦ λ qs. rw (tpms_signature_rsa_once.back x qs)
+      | TpmuSignature.Rsapss x ↦ λ qs. rw (tpms_signature_rsa_once.back x qs)
+      | TpmuSignature.Ecdsa x ↦ λ qs. rw (tpms_signature_ecc_once.back x qs)
+      | TpmuSignature.Ecdaa x ↦ λ qs. rw (tpms_signature_ecc_once.back x qs)
+      | TpmuSignature.Sm2 x ↦ λ qs. rw (tpms_signature_ecc_once.back x qs)
+      | TpmuSignature.Ecschnorr x ↦ λ qs. rw (tpms_signature_ecc_once.back x qs)
+      | TpmuSignature.Hmac x ↦ λ qs. rw (tpmt_ha_once.back x qs)
+      | TpmuSignature.Null ↦ λ qs. refl
     ])
 
 -- ---- kind 10

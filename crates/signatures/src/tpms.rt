@@ -14,26 +14,26 @@ use wire::read::{SpanRead, buffer};
 use wire::span::Span;
 use wire::width::Width;
 
-#[derive(Drop)]
+#[derive(Clone, Copy)]
 pub struct TpmsSignatureRsa {
     pub hash: TpmAlgId,
     pub sig: Span,
 }
 
-#[derive(Drop)]
+#[derive(Clone, Copy)]
 pub struct TpmsSignatureEcc {
     pub hash: TpmAlgId,
     pub signature_r: Span,
     pub signature_s: Span,
 }
 
-#[derive(Drop)]
+#[derive(Clone, Copy)]
 pub enum TpmsSignatureRsaRead {
     Found(TpmsSignatureRsa, usize),
     No(Refusal),
 }
 
-#[derive(Drop)]
+#[derive(Clone, Copy)]
 pub enum TpmsSignatureEccRead {
     Found(TpmsSignatureEcc, usize),
     No(Refusal),

@@ -19,13 +19,13 @@ use steps::walk::{Walk, judging, ready, seeking};
 use wire::measure::Measure;
 use wire::read::nothing_behind;
 
-#[derive(Drop)]
+#[derive(Clone, Copy)]
 pub struct TpmtSignature {
     pub sig_alg: TpmAlgId,
     pub signature: TpmuSignature,
 }
 
-#[derive(Drop)]
+#[derive(Clone, Copy)]
 pub enum TpmtSignatureRead {
     Found(TpmtSignature, usize),
     No(Refusal),

@@ -15,7 +15,7 @@ use format::arms::signature_arm;
 use steps::walk::Walk;
 use wire::widen::wide;
 
-#[derive(Drop)]
+#[derive(Clone, Copy)]
 pub enum TpmuSignature {
     Rsassa(TpmsSignatureRsa),
     Rsapss(TpmsSignatureRsa),
@@ -27,7 +27,7 @@ pub enum TpmuSignature {
     Null,
 }
 
-#[derive(Drop)]
+#[derive(Clone, Copy)]
 pub enum TpmuSignatureRead {
     Found(TpmuSignature, usize),
     No(Refusal),

@@ -10,7 +10,7 @@ use Rattle.faults.specs.declared.Refusal.{Refusal}
 use Rattle.wire.specs.declared.measure.Measure.{Measure}
 use Rattle.wire.specs.declared.span.Span.{Span}
 use Rattle.wire.specs.Answers.{start_of, len_of, measure_answer}
-use Rattle.wire.specs.Lines.{Says, Line, line, a_number, the_bytes, span_line}
+use Rattle.wire.specs.Lines.{Line, line, a_number, the_bytes, span_line}
 use Rattle.wire.specs.Records.{found}
 use Rattle.wire.specs.Layout.{length_to}
 use Rattle.wire.specs.Writing.{cut, spelt}

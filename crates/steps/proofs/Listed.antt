@@ -13,7 +13,7 @@ use Rattle.wire.specs.Answers.{width_of, start_of, len_of}
 use Rattle.wire.specs.Bytes.{be, digits}
 use Rattle.wire.specs.Layout.{Rule, free, listed, fixed, length_to, count_to, Layout, stop, no_arm, arm, number, plain, buffer, one}
 use Rattle.wire.specs.Lines.{Says, a_code, a_number, the_bytes, Line, line, say_number, lines, of_read}
-use Rattle.wire.specs.Records.{Part, found, next, left, Parsed}
+use Rattle.wire.specs.Records.{Part, found, Parsed}
 use Rattle.wire.specs.Reading.{piece, field, walk, read}
 use Rattle.wire.specs.Writing.{cut, whole, lay}
 use Rattle.wire.proofs.Digits.{length_digits}

@@ -23,7 +23,7 @@ pub const FOUND: usize = 5;
 // Behind so many bytes, of a record or of a text, nothing is judged or listed; none is so long.
 pub const FAR: usize = 0x1000000;
 
-#[derive(Drop)]
+#[derive(Clone, Copy)]
 pub struct Walk {
     pub mode: usize,
     pub at: usize,

@@ -188,6 +188,9 @@ refused_text_length k f =
     (said_behind (ascii " value ") f.value _ 7 26 (omega arith)
     (omega (arith, length-append (had_text f.fault f.had) (ascii "\n"), had_text_length f.fault f.had)))))
 
+pub said : (w d : List ℕ) {rest all : List ℕ} → rest ≡ all → (w ++ d) ++ rest ≡ w ++ (d ++ all)
+said w d {rest} e = append_assoc w d rest ∙ ap (λ x. w ++ (d ++ x)) e
+
 -- a word and the number behind it, where there was room for the longest and for j bytes more
 module _ (w : List ℕ) (n : ℕ) {at : ℕ} {old : List ℕ} {m : ℕ} {mid : List ℕ} (p : Puts at (w ++ decimal n) old m mid) (j : ℕ) (room : at + (length w + 20 + j) ≤ length old) where
   few : length (w ++ decimal n) ≤ length w + 20

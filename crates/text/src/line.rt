@@ -8,7 +8,7 @@ ghost use Rattle.text.specs.Text.{decimal, hex, say_word, line_text, word_text};
 use crate::put::{fit_text, put_decimal, put_hex, put_text, room};
 
 // What a listing calls a number.
-#[derive(Drop)]
+#[derive(Clone, Copy)]
 pub enum Word {
     Code,
     Number,

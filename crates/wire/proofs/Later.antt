@@ -5,7 +5,7 @@ use mathlib.Core.List.{List}
 use lib.ListN.{length}
 use Rattle.wire.specs.Layout.{Layout}
 use Rattle.wire.specs.Grammar.{Token, Spells, Items, ends, holds, says, shows, sizes, counts, none, more, placed}
-use Rattle.wire.specs.Editions.{Later, stop_same, arm_same, number_later, plain_same, buffer_same, counted_same, EachItem, Ours}
+use Rattle.wire.specs.Editions.{Later, stop_same, arm_new, arm_same, number_later, plain_same, buffer_same, counted_same, EachItem, Ours}
 use Rattle.wire.proofs.Rules.{keeps_codes}
 
 items_earlier : {i i' : Layout} {n : ℕ} {bs : List ℕ} → ((ts : List Token) (xs : List ℕ) → Spells i ts xs → Spells i' ts xs) → Items i n bs → Items i' n bs
@@ -15,6 +15,7 @@ items_earlier one (more {ts = ts} {xs = xs} e d ds) = more e (one ts xs d) (item
 -- every record of an edition is one of each later edition too
 pub earlier : {l l' : Layout} {ts : List Token} {bs : List ℕ} → Later l l' → Spells l ts bs → Spells l' ts bs
 earlier stop_same ends = ends
+earlier (arm_new {v = v}) d = elim d [ ]
 earlier (arm_same x) (holds d) = holds (earlier x d)
 earlier (number_later rule x) (says n h a e d) = says n h (keeps_codes rule n a) e (earlier (x n a) d)
 earlier (plain_same x) (shows xs h b e d) = shows xs h b e (earlier x d)
@@ -25,6 +26,7 @@ earlier (counted_same y x) (counts n h le c is e d) = counts n h le c (items_ear
 pub earlier_placed : {l l' : Layout} {ts : List Token} {bs : List ℕ} (x : Later l l') (d : Spells l ts bs) (at : ℕ) → placed (earlier x d) at ≡ placed d at
 unfolding earlier
 earlier_placed stop_same ends at = refl
+earlier_placed (arm_new {v = v}) d at = elim d [ ]
 earlier_placed (arm_same x) (holds d) at = rw (earlier_placed x d at)
 earlier_placed (number_later {w} rule x) (says n h a e d) at = rw (earlier_placed (x n a) d (at + w))
 earlier_placed (plain_same {n} x) (shows xs h b e d) at = rw (earlier_placed x d (at + n))
@@ -41,6 +43,7 @@ items_earlier_ours P one all (more {ts = ts} {xs = xs} e d ds) = (all ts xs d, i
 pub earlier_ours : {l l' : Layout} {ts : List Token} {bs : List ℕ} (x : Later l l') (d : Spells l ts bs) → Ours x (earlier x d)
 unfolding earlier
 earlier_ours stop_same ends = tt
+earlier_ours (arm_new {v = v}) d = elim d [ ]
 earlier_ours (arm_same x) (holds d) = earlier_ours x d
 earlier_ours (number_later rule x) (says n h a e d) = (a, earlier_ours (x n a) d)
 earlier_ours (plain_same x) (shows xs h b e d) = earlier_ours x d

@@ -1,8 +1,7 @@
 -- How many bytes are lent for what was measured. Assumes nothing.
 use Prim.Native.Nat.{ℕ, ◌≤◌, ◌<◌}
 use native.Mathlib.Omega.{arith}
-use mathlib.Core.Path.{◌≡◌, refl, sym, ap, ◌∙◌}
-use lib.Dec.{leb}
+use mathlib.Core.Path.{◌≡◌}
 use borrow.Author.Tests.{le-leb, lt-leb}
 use Rattle.faults.specs.declared.Refusal.{Refusal}
 use Rattle.wire.specs.declared.measure.Measure.{Measure}

@@ -1,6 +1,6 @@
 -- The part that a record keeps of a list shows a legal list, if the record is legal: the grammar has the list's own bytes for a token.
 -- Assumes nothing.
-use Prim.Native.Nat.{ℕ, ◌+◌, ◌<◌}
+use Prim.Native.Nat.{ℕ, ◌<◌}
 use native.Mathlib.Omega.{arith}
 use mathlib.Core.Path.{◌≡◌, refl, ap}
 use mathlib.Core.List.{List, ◌∷◌, ◌++◌}
@@ -36,7 +36,7 @@ module _ (src : List ℕ) where
   rest_shown e = cc
 
   -- of parts that lie in the source and show a legal record, those of its lists show legal lists
-  pub list_part_shows_a_legal_list : {m : ℕ} {item l : Layout} {p : Part} {ps : List Part} {ts : List Token} {bs : List ℕ}
+  pub list_part_shows_a_legal_list : {m : ℕ} {item : Layout} {p : Part} {l : Layout} {ps : List Part} {ts : List Token} {bs : List ℕ}
       → ListPart m item p l ps → Spells l ts bs → shown src ps ≡ ts → Within src ps → ShowsList src m item p
   list_part_shows_a_legal_list {p = p} (here {ps = ps}) (counts {ys = ys} n fits most c is e d) same h =
       shows_the_list p ps (first_shown same) h (record { count = n; fits = fits; most = most; items = ys; whole = c; spells = is })
@@ -50,7 +50,7 @@ module _ (src : List ℕ) where
   list_part_shows_a_legal_list (past_list {q = q} {ps} x) (counts n fits most c is e d) same h = list_part_shows_a_legal_list x d (rest_shown same) (rest_within q ps h)
 
   -- a legal record with a list has a byte: those of its count
-  list_has_a_byte : {m : ℕ} {item l : Layout} {p : Part} {ps : List Part} {ts : List Token} {bs : List ℕ}
+  list_has_a_byte : {m : ℕ} {item : Layout} {p : Part} {l : Layout} {ps : List Part} {ts : List Token} {bs : List ℕ}
       → ListPart m item p l ps → Spells l ts bs → shown src ps ≡ ts → 0 < length bs
   list_has_a_byte here (counts {xs = xs} {ys} {cs} n fits most c is e d) same =
       omega (arith, ap length e, ap length c, length-append xs cs, length-append (digits 4 n) ys, length_digits 4 n)

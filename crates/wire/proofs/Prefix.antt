@@ -56,11 +56,23 @@ prefix_free {l} {ts} {us} {bs} more d e =
 pub same_bytes_same_record : {l : Layout} {ts us : List Token} {bs : List ℕ} → Spells l ts bs → Spells l us bs → ts ≡ us
 same_bytes_same_record {us = us} {bs = bs} d e = (prefix_free {us = us} [] d (rw append-nil e)).1
 
--- what a record shows has one spelling
+-- what a record shows has one spelling: of two that show the same
+spelled_alike : {l : Layout} {ts us : List Token} {bs cs : List ℕ} → Spells l ts bs → Spells l us cs → ts ≡ us → bs ≡ cs
+spelled_alike ends ends same = refl
+spelled_alike (holds d) (holds e) same = spelled_alike d e (cc)
+spelled_alike (says {w} {k = k} {ts = ts} {cs = cs} n h a p d) (says {cs = ds} n' h' a' q e) same =
+    let number : n ≡ n' = cc in
+    let d' : Spells (k n') ts cs = rw number at d in
+    p ∙ ap (λ m. digits w m ++ cs) number ∙ ap (λ t. digits w n' ++ t) (spelled_alike d' e (cc)) ∙ sym q
+spelled_alike (shows {cs = cs} xs h b p d) (shows xs' h' b' q e) same =
+    let bytes : xs ≡ xs' = cc in
+    p ∙ ap (λ t. t ++ cs) bytes ∙ ap (λ t. xs' ++ t) (spelled_alike d e (cc)) ∙ sym q
+spelled_alike (sizes {w} {cs = cs} xs h m b p d) (sizes xs' h' m' b' q e) same =
+    let bytes : xs ≡ xs' = cc in
+    p ∙ ap (λ t. digits w (length t) ++ (t ++ cs)) bytes ∙ ap (λ t. digits w (length xs') ++ (xs' ++ t)) (spelled_alike d e (cc)) ∙ sym q
+spelled_alike (counts {xs = xs} {cs = cs} n h m c is p d) (counts {xs = xs'} n' h' m' c' is' q e) same =
+    let bytes : xs ≡ xs' = cc in
+    p ∙ ap (λ t. t ++ cs) bytes ∙ ap (λ t. xs' ++ t) (spelled_alike d e (cc)) ∙ sym q
+
 pub one_spelling : {l : Layout} {ts : List Token} {bs cs : List ℕ} → Spells l ts bs → Spells l ts cs → bs ≡ cs
-one_spelling ends ends = refl
-one_spelling (holds d) (holds e) = one_spelling d e
-one_spelling (says {w} n h a p d) (says n' h' a' q e) = p ∙ ap (λ t. digits w n ++ t) (one_spelling d e) ∙ sym q
-one_spelling (shows xs h b p d) (shows xs' h' b' q e) = p ∙ ap (λ t. xs ++ t) (one_spelling d e) ∙ sym q
-one_spelling (sizes {w} xs h m b p d) (sizes xs' h' m' b' q e) = p ∙ ap (λ t. digits w (length xs) ++ (xs ++ t)) (one_spelling d e) ∙ sym q
-one_spelling (counts {xs = xs} n h m c is p d) (counts n' h' m' c' is' q e) = p ∙ ap (λ t. xs ++ t) (one_spelling d e) ∙ sym q
+one_spelling d e = spelled_alike d e refl

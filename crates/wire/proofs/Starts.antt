@@ -9,15 +9,14 @@ use native.Mathlib.Omega.{arith}
 use lib.Dec.{eqb}
 use Rattle.wire.specs.Bytes.{be}
 use Rattle.wire.specs.Layout.{Layout}
-use Rattle.wire.specs.Records.{Part, num, tag, span, Ans, found, refused, next, Parsed}
+use Rattle.wire.specs.Records.{Part, num, tag, span, found, next, Parsed}
 use Rattle.wire.specs.Reading.{Reader, walk, list, read}
 use Rattle.wire.specs.Grammar.{Stands}
-use Rattle.wire.specs.Writing.{cut, whole}
-use Rattle.wire.specs.Fields.{pick_field, field_of, part_of}
+use Rattle.wire.specs.Writing.{whole}
+use Rattle.wire.specs.Fields.{pick_field, field_of}
 use Rattle.wire.specs.Items.{pick_item, item_of}
-use Rattle.wire.specs.Places.{start_if, start_at, place_of, item_start}
+use Rattle.wire.specs.Places.{start_at, item_start}
 use Rattle.wire.proofs.Steps.{found_refused, found_same, next_found, when_found}
-use Rattle.wire.proofs.Stand.{stands_none}
 use Rattle.wire.proofs.Written.{cut_found}
 
 -- a byte field

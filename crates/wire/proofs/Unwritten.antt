@@ -72,7 +72,7 @@ whole_trails {m} {i} {hs} zs x h =
     rw (list_walked zs x, other, rest)
 
 -- if the first field that may not be written is named by f, the writer refuses so
-pub unwritten_lay : {l : Layout} {ps : List Part} {src : List ℕ} {at : ℕ} {f : Refusal} → Unwritten src l ps at f → lay l ps src at ≡ refused f
+pub unwritten_lay : {src : List ℕ} {l : Layout} {ps : List Part} {at : ℕ} {f : Refusal} → Unwritten src l ps at f → lay l ps src at ≡ refused f
 unfolding lay
 unwritten_lay (arm_missing e) = ap refused (sym e)
 unwritten_lay (arm_other {t = t} {u} h e) = rw (ne_eqb u t h, e)
@@ -109,15 +109,15 @@ pub record Carried (P : Layout → List Part → Type 0) : Type 0 where
 
 -- so it holds of all parts in the shape of a layout
 pub by_shape : (P : Layout → List Part → Type 0) → Carried P → (l : Layout) (ps : List Part) → Shaped l ps → P l ps
-by_shape P c stop [] s = c.at-stop
+by_shape P c stop [] s = c.at_stop
 by_shape P c stop (p ∷ ps) s = absurd s
-by_shape P c (no_arm v) ps s = c.at-no-arm v ps
+by_shape P c (no_arm v) ps s = c.at_no_arm v ps
 by_shape P c (arm v t l) [] s = absurd s
 by_shape P c (arm v t l) (num n ∷ ps) s = absurd s
-by_shape P c (arm v t l) (tag u ∷ ps) s = c.at-arm v t l u ps (λ e. by_shape P c l ps (s e))
+by_shape P c (arm v t l) (tag u ∷ ps) s = c.at_arm v t l u ps (λ e. by_shape P c l ps (s e))
 by_shape P c (arm v t l) (span start len ∷ ps) s = absurd s
 by_shape P c (number w r k) [] s = absurd s
-by_shape P c (number w r k) (num n ∷ ps) s = c.at-number w r k n ps s.0 (λ a. by_shape P c (k n) ps (s.1 a))
+by_shape P c (number w r k) (num n ∷ ps) s = c.at_number w r k n ps s.0 (λ a. by_shape P c (k n) ps (s.1 a))
 by_shape P c (number w r k) (tag u ∷ ps) s = absurd s
 by_shape P c (number w r k) (span start len ∷ ps) s = absurd s
 by_shape P c (plain n l) [] s = absurd s
@@ -127,11 +127,11 @@ by_shape P c (plain n l) (span start len ∷ ps) s = rw s.0 (c.at_plain n l star
 by_shape P c (buffer w m l) [] s = absurd s
 by_shape P c (buffer w m l) (num n ∷ ps) s = absurd s
 by_shape P c (buffer w m l) (tag u ∷ ps) s = absurd s
-by_shape P c (buffer w m l) (span start len ∷ ps) s = c.at-buffer w m l start len ps s.0 (by_shape P c l ps s.1)
+by_shape P c (buffer w m l) (span start len ∷ ps) s = c.at_buffer w m l start len ps s.0 (by_shape P c l ps s.1)
 by_shape P c (counted m i l) [] s = absurd s
 by_shape P c (counted m i l) (num n ∷ ps) s = absurd s
 by_shape P c (counted m i l) (tag u ∷ ps) s = absurd s
-by_shape P c (counted m i l) (span start len ∷ ps) s = c.at-counted m i l start len ps (by_shape P c l ps s)
+by_shape P c (counted m i l) (span start len ∷ ps) s = c.at_counted m i l start len ps (by_shape P c l ps s)
 
 -- the parts of what is spelled are in the shape of its layout
 pub placed_shaped : {l : Layout} {ts : List Token} {bs : List ℕ} (d : Spells l ts bs) (at : ℕ) → Shaped l (placed d at)

@@ -5,7 +5,7 @@ ghost use Rattle.wire.specs.Filling.{lend};
 
 use faults::Refusal;
 
-#[derive(Drop)]
+#[derive(Clone, Copy)]
 pub enum Measure {
     Size(usize),
     No(Refusal),

@@ -11,13 +11,13 @@ use crate::widen::wide_byte;
 use crate::width::Width;
 use faults::Refusal;
 
-#[derive(Drop)]
+#[derive(Clone, Copy)]
 pub enum NumberRead {
     Found(u64, usize),
     No(Refusal),
 }
 
-#[derive(Drop)]
+#[derive(Clone, Copy)]
 pub enum SpanRead {
     Found(Span, usize),
     No(Refusal),

@@ -9,7 +9,7 @@ ghost use Rattle.wire.specs.Places.{StandsAt, start_if};
 use crate::measure::Measure;
 use faults::Refusal;
 
-#[derive(Drop)]
+#[derive(Clone, Copy)]
 pub struct Span {
     start: usize,
     len: usize,

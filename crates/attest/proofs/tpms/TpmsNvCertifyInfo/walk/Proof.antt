@@ -1,8 +1,0 @@
--- Its fields, one behind the other. Assumes nothing.
-use Rattle.format.specs.Kinds.{tpms_nv_certify_info}
-use Rattle.steps.proofs.Search.{needs, walking}
-use Rattle.attest.proofs.tpms.TpmsNvCertifyInfo.walk.Tie as tie
-
-pub walk_spec : {M : Type 1} → Rattle.attest.proofs.tpms.TpmsNvCertifyInfo.walk.Statement.statement M
-unfolding tpms_nv_certify_info
-walk_spec = tie.close (tie.spec (search needs) (search needs) (search needs) (search needs) (λ c. search walking))

@@ -1,8 +1,0 @@
--- Its fields, one behind the other. Assumes nothing.
-use Rattle.format.specs.Kinds.{tpmt_sym_def}
-use Rattle.steps.proofs.Search.{needs, walking}
-use Rattle.ciphers.proofs.tpmt.TpmtSymDef.walk.Tie as tie
-
-pub walk_spec : {M : Type 1} → Rattle.ciphers.proofs.tpmt.TpmtSymDef.walk.Statement.statement M
-unfolding tpmt_sym_def
-walk_spec = tie.close (tie.spec (search needs) (search needs) (search needs) (search needs) (λ c. search walking))

@@ -1,9 +1,0 @@
--- What was read is walked over. Assumes nothing.
-use Rattle.signatures.specs.Answers.{tpmt_signature_answer}
-use Rattle.copies.proofs.Walked.{needs, as_walked, not_walked}
-use Rattle.copies.proofs.walk.tpmt_signature_walk.Tie as tie
-
-pub tpmt_signature_walk_spec : {M : Type 1} → Rattle.copies.proofs.walk.tpmt_signature_walk.Statement.statement M
-tpmt_signature_walk_spec = tie.close (tie.spec
-    (search needs) (search needs) (search needs) (search needs) (search needs) (search needs) (λ c. search (as_walked tpmt_signature_answer))
-    (λ c. search (not_walked tpmt_signature_answer)))

@@ -1,9 +1,0 @@
--- What was read is walked over. Assumes nothing.
-use Rattle.areas.specs.Answers.{tpmt_tk_creation_answer}
-use Rattle.copies.proofs.Walked.{needs, as_walked, not_walked}
-use Rattle.copies.proofs.walk.tpmt_tk_creation_walk.Tie as tie
-
-pub tpmt_tk_creation_walk_spec : {M : Type 1} → Rattle.copies.proofs.walk.tpmt_tk_creation_walk.Statement.statement M
-tpmt_tk_creation_walk_spec = tie.close (tie.spec
-    (search needs) (search needs) (search needs) (search needs) (search needs) (search needs) (λ c. search (as_walked tpmt_tk_creation_answer))
-    (λ c. search (not_walked tpmt_tk_creation_answer)))

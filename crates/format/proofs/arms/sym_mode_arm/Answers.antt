@@ -1,0 +1,27 @@
+-- Each code of a pattern is a row's, and every row's code is in one of them. Assumes nothing.
+use mathlib.Core.List.{List, [], ◌∷◌}
+use mathlib.Core.Path.{refl}
+use Prim.Native.Nat.{ℕ}
+use Rattle.wire.specs.declared.choice.Choice.TheVariants.{The}
+use Rattle.codes.specs.Codes.{aes, xor, null, sm4, camellia}
+use Rattle.format.specs.Kinds.{tpmu_sym_mode_table, tpmu_sym_mode_arm}
+use Rattle.codes.proofs.Choices.{chosen_among, none_unmatched}
+use Rattle.format.proofs.arms.sym_mode_arm.Goals as goal
+
+abbrev owns : List ℕ
+owns = aes ∷ sm4 ∷ camellia ∷ []
+
+abbrev empties : List ℕ
+empties = xor ∷ null ∷ []
+
+pub returns-in-6 : goal.returns-in-6
+unfolding tpmu_sym_mode_arm
+returns-in-6 c = chosen_among The tpmu_sym_mode_table owns refl _ c.in-6.is
+
+pub returns-in-10 : goal.returns-in-10
+unfolding tpmu_sym_mode_arm
+returns-in-10 c = chosen_among (λ v. The null) tpmu_sym_mode_table empties refl _ c.in-10.is
+
+pub returns-in_default : goal.returns-in_default
+unfolding tpmu_sym_mode_arm
+returns-in_default c = none_unmatched tpmu_sym_mode_table (empties ∷ owns ∷ []) refl _ c.in_default.in_default-own.rest

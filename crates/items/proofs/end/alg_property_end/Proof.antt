@@ -1,9 +1,0 @@
--- The end of what the reader answers. Assumes nothing.
-use Rattle.items.specs.Items.{tpms_alg_property_answer}
-use Rattle.format.proofs.Numbered.{needs, ending}
-use Rattle.items.proofs.end.alg_property_end.Statement.{statement}
-use Rattle.items.proofs.end.alg_property_end.Tie as tie
-
-pub alg_property_end_spec : {M : Type 1} → statement M
-alg_property_end_spec = tie.close (tie.spec
-    (search needs) (search needs) (search needs) (λ c. search (ending tpms_alg_property_answer)) (λ c. search (ending tpms_alg_property_answer)))

@@ -1,0 +1,17 @@
+-- Field by field, what is left to read is the rest of the layout. Assumes nothing.
+use Rattle.wire.proofs.Search.{finds, refuses, by_number, by_whole, rests}
+use Rattle.codes.specs.Answers.{uint32_answer}
+use Rattle.format.specs.Kinds.{tpms_tagged_property}
+use Rattle.items.proofs.tpms.TpmsTaggedProperty.unmarshal.Goals as goal
+
+pub returns-in-No : goal.returns-in-No
+unfolding tpms_tagged_property
+returns-in-No c = refuses (search (by_number uint32_answer, rests))
+
+pub returns-in-No-uint32 : goal.returns-in-No-uint32
+unfolding tpms_tagged_property
+returns-in-No-uint32 c = refuses (search (by_number uint32_answer, by_whole uint32_answer, rests))
+
+pub returns : goal.returns
+unfolding tpms_tagged_property
+returns c = finds (search (by_number uint32_answer, by_whole uint32_answer, rests))

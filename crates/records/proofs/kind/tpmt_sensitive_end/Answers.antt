@@ -1,0 +1,10 @@
+-- The end is that of the record that was read. Assumes nothing.
+use Rattle.sensitive.specs.Answers.{tpmt_sensitive_answer}
+use Rattle.format.proofs.Numbered.{ending}
+use Rattle.records.proofs.kind.tpmt_sensitive_end.Goals as goal
+
+pub returns-in-Found : goal.returns-in-Found
+returns-in-Found c = search (ending tpmt_sensitive_answer)
+
+pub returns-in-No : goal.returns-in-No
+returns-in-No c = search (ending tpmt_sensitive_answer)

@@ -1,0 +1,14 @@
+-- What was read is written, and read back to its end. Assumes nothing.
+use Rattle.wire.proofs.Stand.{bytes_of}
+use Rattle.ciphers.specs.Answers.{tpmt_ha_answer}
+use Rattle.roundtrip.proofs.Roundtrip.{read_again, none_again}
+use Rattle.roundtrip.proofs.again.tpmt_ha_again.Goals as goal
+
+pub returns-in-Found-tpmt_ha_back : goal.returns-in-Found-tpmt_ha_back
+returns-in-Found-tpmt_ha_back c = let bytes = bytes_of c.args.s.now (λ i. (c.type_inv.s i).fits) in search (read_again tpmt_ha_answer)
+
+pub returns-in-No-tpmt_ha_back : goal.returns-in-No-tpmt_ha_back
+returns-in-No-tpmt_ha_back c = let bytes = bytes_of c.args.s.now (λ i. (c.type_inv.s i).fits) in search (read_again tpmt_ha_answer)
+
+pub returns-in-No : goal.returns-in-No
+returns-in-No c = search (none_again tpmt_ha_answer)

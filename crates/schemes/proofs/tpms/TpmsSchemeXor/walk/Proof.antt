@@ -1,8 +1,0 @@
--- Its fields, one behind the other. Assumes nothing.
-use Rattle.format.specs.Kinds.{tpms_scheme_xor}
-use Rattle.steps.proofs.Search.{needs, walking}
-use Rattle.schemes.proofs.tpms.TpmsSchemeXor.walk.Tie as tie
-
-pub walk_spec : {M : Type 1} → Rattle.schemes.proofs.tpms.TpmsSchemeXor.walk.Statement.statement M
-unfolding tpms_scheme_xor
-walk_spec = tie.close (tie.spec (search needs) (search needs) (search needs) (λ c. search walking))

@@ -1,6 +1,0 @@
--- The size of the field that was sought. Assumes nothing.
-use Rattle.steps.proofs.Found.{needs, sought_size}
-use Rattle.signatures.proofs.tpmt.TpmtSignature.field_size.Tie as tie
-
-pub field_size_spec : {M : Type 1} → Rattle.signatures.proofs.tpmt.TpmtSignature.field_size.Statement.statement M
-field_size_spec = tie.close (tie.spec (search needs) (search needs) (search needs) (search needs) (λ c. search sought_size))

@@ -1,0 +1,15 @@
+-- Judged first, and then its two lines. Assumes nothing.
+use Rattle.steps.proofs.Lined.{buffer_lines_far, buffer_inside, buffer_lined, buffer_not_lined}
+use Rattle.steps.proofs.walk.Walk.buffer_lines.Goals as goal
+
+pub returns-then-at-gt-FAR : goal.returns-then-at-gt-FAR
+returns-then-at-gt-FAR c = search buffer_lines_far
+
+pub bytes_line-requires : goal.bytes_line-requires
+bytes_line-requires c = buffer_inside _ _ c.in-Size.is _ _ c.judge_buffer.ensures
+
+pub returns-in-Size : goal.returns-in-Size
+returns-in-Size c = search buffer_lined
+
+pub returns-in-No : goal.returns-in-No
+returns-in-No c = search buffer_not_lined

@@ -1,0 +1,12 @@
+-- Put, or aside. Assumes nothing.
+use Rattle.wire.specs.declared.width.Width.TheVariants.{Two}
+use Rattle.codes.specs.Codes.{ticket_tag}
+use Rattle.text.specs.declared.line.Word.TheVariants.{Number}
+use Rattle.steps.proofs.Numbers.{put_numbers, aside_numbers}
+use Rattle.steps.proofs.walk.Walk.ticket_tag.Goals as goal
+
+pub returns-then-self-eq-PUT : goal.returns-then-self-eq-PUT
+returns-then-self-eq-PUT c = search (put_numbers Two (ticket_tag c.args.ticket))
+
+pub returns : goal.returns
+returns c = search (aside_numbers Two (ticket_tag c.args.ticket) Number)
