@@ -49,11 +49,7 @@ try 'writes of one byte' 0 srk '' 'faulty WRITE_MOST=1 "$list" "$deposits/srk"'
 try 'every second write is interrupted' 0 srk '' 'faulty "WRITE_EINTR=2 WRITE_MOST=1" "$list" "$deposits/srk"'
 try 'all of it at once' 0 srk '' 'faulty "READ_EINTR=2 READ_MOST=1 WRITE_EINTR=3 WRITE_MOST=2" "$list" "$deposits/srk"'
 try 'all of it at once, refused' 1 cut '' 'faulty "READ_EINTR=2 READ_MOST=1 WRITE_EINTR=3 WRITE_MOST=2" "$list" "$deposits/cut"'
-try 'waiting for the output fails' 2 srk "cabinet-list: standard output: Input/output error" 'faulty SYNC_ERROR=5 "$list" "$deposits/srk"'
-
-try 'waiting for the output is interrupted, and then fails' 2 srk "cabinet-list: standard output: Input/output error" 'faulty "SYNC_ERROR=5 SYNC_EINTR=3" "$list" "$deposits/srk"'
-try 'the output cannot be waited for' 0 srk '' 'faulty SYNC_ERROR=22 "$list" "$deposits/srk"'
-try 'output to a pipe is not waited for' 0 srk '' 'faulty SYNC_ERROR=5 "$list" "$deposits/srk" | cat'
+try 'closing the output fails' 2 srk "cabinet-list: standard output: Input/output error" 'faulty CLOSE_ERROR=5 "$list" "$deposits/srk"'
 
 # The first line of a row and its first listing take 47 bytes.
 head -c 20 "$want/row-three" >"$want/row-begun"
@@ -66,6 +62,6 @@ head -c 7 "$want/row-cut" >"$want/row-cut-begun"
 try 'a write fails in the refusal of a row' 2 row-cut-begun "$full" 'faulty "WRITE_STOP=7 WRITE_ERROR=28" "$list" --kind 2 --run "$rows/cut"'
 try 'all of it at once, a row' 0 row-three '' 'faulty "READ_EINTR=2 READ_MOST=1 WRITE_EINTR=3 WRITE_MOST=2" "$list" --kind 2 --run "$rows/three"'
 try 'all of it at once, a refused row' 1 row-cut '' 'faulty "READ_EINTR=2 READ_MOST=1 WRITE_EINTR=3 WRITE_MOST=2" "$list" --kind 2 --run "$rows/cut"'
-try 'waiting for the output fails, a row' 2 row-three "cabinet-list: standard output: Input/output error" 'faulty SYNC_ERROR=5 "$list" --kind 2 --run "$rows/three"'
-try 'waiting for the output fails, a row of no records' 2 nothing "cabinet-list: standard output: Input/output error" 'faulty SYNC_ERROR=5 "$list" --kind 2 --run "$rows/none"'
-try 'waiting for the output fails, a refused row' 2 row-cut "cabinet-list: standard output: Input/output error" 'faulty SYNC_ERROR=5 "$list" --kind 2 --run "$rows/cut"'
+try 'closing the output fails, a row' 2 row-three "cabinet-list: standard output: Input/output error" 'faulty CLOSE_ERROR=5 "$list" --kind 2 --run "$rows/three"'
+try 'closing the output fails, a row of no records' 2 nothing "cabinet-list: standard output: Input/output error" 'faulty CLOSE_ERROR=5 "$list" --kind 2 --run "$rows/none"'
+try 'closing the output fails, a refused row' 2 row-cut "cabinet-list: standard output: Input/output error" 'faulty CLOSE_ERROR=5 "$list" --kind 2 --run "$rows/cut"'

@@ -3,17 +3,15 @@ ghost use Rattle.std.specs.Prelude.{◌≡◌, ◌≤◌, length};
 
 use crate::calls::give;
 use std::fs;
-use std::fs::OpenOptions;
 use std::io::{Error, ErrorKind, Write};
+use std::os::fd::AsFd;
+use std_io::io::last_error;
 
 pub const READ: u8 = b'0';
 
 pub const REFUSED: u8 = b'1';
 
 pub const TROUBLE: u8 = b'2';
-
-// Standard output as a file.
-const OUTPUT: &str = "/proc/self/fd/1";
 
 // How often a byte is written to descriptor 3.
 const TRIES: usize = 1000;
@@ -70,39 +68,34 @@ pub fn unwritten(rt: HostRuntime, why: Error) -> u8 {
     failed(rt, b"cabinet-list: standard output", why)
 }
 
-// What a system that writes later has not written is told by a call that waits for it. Only what goes to a file is written later. Where
-// the file cannot be opened a second time, or cannot be waited for, nothing is told.
-fn settled(rt: HostRuntime) -> Result<(), Error> {
-    match fs::metadata(&rt, OUTPUT) {
-        Ok(found) => {
-            if !found.is_file() {
-                return Ok(());
-            }
-        }
-        Err(_) => return Ok(()),
-    }
-    match OpenOptions::new().append(true).open(&rt, OUTPUT) {
-        Ok(file) => told(file.sync_data()),
-        Err(_) => Ok(()),
-    }
-}
-
-// What waiting told, if that was possible.
-fn told(waited: Result<(), Error>) -> Result<(), Error> {
-    match waited {
-        Ok(()) => Ok(()),
+// Makes a call that fails in a known way: no file has an empty name. After it the last call that failed is one that found nothing.
+fn mark(rt: HostRuntime) -> Result<(), Error> {
+    match fs::metadata(&rt, "") {
+        Ok(_) => Err(Error::from(ErrorKind::Other)),
         Err(why) => match why.kind() {
-            ErrorKind::InvalidInput => Ok(()),
-            ErrorKind::Unsupported => Ok(()),
+            ErrorKind::NotFound => Ok(()),
             _ => Err(why),
         },
     }
 }
 
+// Closing tells what a system that writes later has not written, and of a second descriptor of the same file it tells that too. The library's
+// close does not answer: why it failed is what the system says of the last call that did.
+fn closed(rt: HostRuntime) -> Result<(), Error> {
+    let second = rt.stdout().as_fd().try_clone_to_owned()?;
+    mark(rt)?;
+    drop(second);
+    let why = last_error();
+    if why.kind() == ErrorKind::NotFound {
+        return Ok(());
+    }
+    Err(why)
+}
+
 // Whether it is written, or why it is not.
 fn is_written(rt: HostRuntime, text: &[u8]) -> Result<(), Error> {
     give(&mut rt.stdout(), text)?;
-    settled(rt)
+    closed(rt)
 }
 
 // The last of what is written, and whether all of it was.
