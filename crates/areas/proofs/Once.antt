@@ -1,25 +1,14 @@
--- The parts of each type determine it, and no two answers of this crate mean the same. Assumes nothing.
+-- The parts of each type determine it. Assumes nothing.
 use mathlib.Core.Path.{refl}
 use mathlib.Core.List.{[], ◌∷◌}
 use Rattle.wire.specs.Records.{num}
-use Rattle.wire.proofs.Once.{Injective, Once, number_once, span_once, both, fields, holds, union, answers}
+use Rattle.wire.proofs.Once.{Once, number_once, span_once, both, fields, holds, union}
 use Rattle.codes.specs.Codes.{ht_nv_index, ht_external_nv, ht_permanent_nv}
 use Rattle.codes.proofs.Once.{tpm_alg_id_once, tpm_st_once, tpm_ht_once, tpm_rh_once}
 use Rattle.areas.specs.declared.tpms.TpmaNv.{TpmaNv}
 use Rattle.areas.specs.declared.tpms.TpmaNvExp.{TpmaNvExp}
 use Rattle.areas.specs.declared.tpmu.TpmuNvPublic2.{TpmuNvPublic2}
-use Rattle.areas.specs.declared.ticket.TicketBodyRead.{TicketBodyRead}
-use Rattle.areas.specs.declared.tpms.NvPublicTailRead.{NvPublicTailRead}
-use Rattle.areas.specs.declared.tpms.TpmsNvPublicRead.{TpmsNvPublicRead}
-use Rattle.areas.specs.declared.tpms.TpmsNvPublicExpAttrRead.{TpmsNvPublicExpAttrRead}
-use Rattle.areas.specs.declared.tpmu.TpmuNvPublic2Read.{TpmuNvPublic2Read}
-use Rattle.areas.specs.declared.tpmt.TpmtNvPublic2Read.{TpmtNvPublic2Read}
-use Rattle.areas.specs.declared.tpmt.TpmtTkCreationRead.{TpmtTkCreationRead}
-use Rattle.areas.specs.declared.tpmt.TpmtTkVerifiedRead.{TpmtTkVerifiedRead}
-use Rattle.areas.specs.declared.tpmt.TpmtTkHashcheckRead.{TpmtTkHashcheckRead}
-use Rattle.areas.specs.declared.tpmt.TpmtTkAuthRead.{TpmtTkAuthRead}
 use Rattle.areas.specs.Parts.{ticket_body_parts, nv_public_tail_parts, tpms_nv_public_parts, tpms_nv_public_exp_attr_parts, tpmu_nv_public2_parts, tpmt_nv_public2_parts, tpmt_tk_creation_parts, tpmt_tk_verified_parts, tpmt_tk_hashcheck_parts, tpmt_tk_auth_parts}
-use Rattle.areas.specs.Answers.{ticket_body_answer, nv_public_tail_answer, tpms_nv_public_answer, tpms_nv_public_exp_attr_answer, tpmu_nv_public2_answer, tpmt_nv_public2_answer, tpmt_tk_creation_answer, tpmt_tk_verified_answer, tpmt_tk_hashcheck_answer, tpmt_tk_auth_answer}
 
 tpma_nv_once : Once (λ (a : TpmaNv). num a.0 ∷ [])
 tpma_nv_once = fields (λ a. a.0) (λ n. record { 0 = n }) (λ a. refl) number_once
@@ -72,33 +61,3 @@ tpmt_tk_hashcheck_once = fields (λ x. (x.tag, (x.hierarchy, x.digest))) (λ (a,
 
 pub tpmt_tk_auth_once : Once tpmt_tk_auth_parts
 tpmt_tk_auth_once = fields (λ x. (x.tag, (x.hierarchy, x.digest))) (λ (a, (b, c)). record { tag = a; hierarchy = b; digest = c }) (λ x. refl) (both tpm_st_once (both tpm_rh_once span_once))
-
-pub ticket_body_answer_once : Injective ticket_body_answer
-ticket_body_answer_once = answers ticket_body_once TicketBodyRead.Found TicketBodyRead.No ticket_body_answer (λ back. elim [ TicketBodyRead.Found x e ↦ back x e | TicketBodyRead.No f ↦ refl ])
-
-pub nv_public_tail_answer_once : Injective nv_public_tail_answer
-nv_public_tail_answer_once = answers nv_public_tail_once NvPublicTailRead.Found NvPublicTailRead.No nv_public_tail_answer (λ back. elim [ NvPublicTailRead.Found x e ↦ back x e | NvPublicTailRead.No f ↦ refl ])
-
-pub tpms_nv_public_answer_once : Injective tpms_nv_public_answer
-tpms_nv_public_answer_once = answers tpms_nv_public_once TpmsNvPublicRead.Found TpmsNvPublicRead.No tpms_nv_public_answer (λ back. elim [ TpmsNvPublicRead.Found x e ↦ back x e | TpmsNvPublicRead.No f ↦ refl ])
-
-pub tpms_nv_public_exp_attr_answer_once : Injective tpms_nv_public_exp_attr_answer
-tpms_nv_public_exp_attr_answer_once = answers tpms_nv_public_exp_attr_once TpmsNvPublicExpAttrRead.Found TpmsNvPublicExpAttrRead.No tpms_nv_public_exp_attr_answer (λ back. elim [ TpmsNvPublicExpAttrRead.Found x e ↦ back x e | TpmsNvPublicExpAttrRead.No f ↦ refl ])
-
-pub tpmu_nv_public2_answer_once : Injective tpmu_nv_public2_answer
-tpmu_nv_public2_answer_once = answers tpmu_nv_public2_once TpmuNvPublic2Read.Found TpmuNvPublic2Read.No tpmu_nv_public2_answer (λ back. elim [ TpmuNvPublic2Read.Found x e ↦ back x e | TpmuNvPublic2Read.No f ↦ refl ])
-
-pub tpmt_nv_public2_answer_once : Injective tpmt_nv_public2_answer
-tpmt_nv_public2_answer_once = answers tpmt_nv_public2_once TpmtNvPublic2Read.Found TpmtNvPublic2Read.No tpmt_nv_public2_answer (λ back. elim [ TpmtNvPublic2Read.Found x e ↦ back x e | TpmtNvPublic2Read.No f ↦ refl ])
-
-pub tpmt_tk_creation_answer_once : Injective tpmt_tk_creation_answer
-tpmt_tk_creation_answer_once = answers tpmt_tk_creation_once TpmtTkCreationRead.Found TpmtTkCreationRead.No tpmt_tk_creation_answer (λ back. elim [ TpmtTkCreationRead.Found x e ↦ back x e | TpmtTkCreationRead.No f ↦ refl ])
-
-pub tpmt_tk_verified_answer_once : Injective tpmt_tk_verified_answer
-tpmt_tk_verified_answer_once = answers tpmt_tk_verified_once TpmtTkVerifiedRead.Found TpmtTkVerifiedRead.No tpmt_tk_verified_answer (λ back. elim [ TpmtTkVerifiedRead.Found x e ↦ back x e | TpmtTkVerifiedRead.No f ↦ refl ])
-
-pub tpmt_tk_hashcheck_answer_once : Injective tpmt_tk_hashcheck_answer
-tpmt_tk_hashcheck_answer_once = answers tpmt_tk_hashcheck_once TpmtTkHashcheckRead.Found TpmtTkHashcheckRead.No tpmt_tk_hashcheck_answer (λ back. elim [ TpmtTkHashcheckRead.Found x e ↦ back x e | TpmtTkHashcheckRead.No f ↦ refl ])
-
-pub tpmt_tk_auth_answer_once : Injective tpmt_tk_auth_answer
-tpmt_tk_auth_answer_once = answers tpmt_tk_auth_once TpmtTkAuthRead.Found TpmtTkAuthRead.No tpmt_tk_auth_answer (λ back. elim [ TpmtTkAuthRead.Found x e ↦ back x e | TpmtTkAuthRead.No f ↦ refl ])

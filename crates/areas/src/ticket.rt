@@ -1,14 +1,12 @@
 // What every ticket has behind its tag: a hierarchy and a digest. One reader serves the four tickets.
-ghost use Rattle.std.specs.Prelude.{◌≡◌};
-ghost use Rattle.wire.specs.Reading.{read};
 ghost use Rattle.format.specs.Kinds.{ticket_body};
-ghost use Rattle.areas.specs.Answers.{ticket_body_answer};
+ghost use Rattle.areas.specs.Parts.{ticket_body_parts};
 
-use codes::{TpmRh, TpmRhRead};
-use faults::Refusal;
+use codes::TpmRh;
 use format::limits;
-use wire::read::{SpanRead, buffer};
+use wire::read::{Read, buffer};
 use wire::span::Span;
+use wire::unmarshal::TpmUnmarshal;
 use wire::width::Width;
 
 #[derive(Clone, Copy)]
@@ -17,31 +15,14 @@ pub struct TicketBody {
     pub digest: Span,
 }
 
-#[derive(Clone, Copy)]
-pub enum TicketBodyRead {
-    Found(TicketBody, usize),
-    No(Refusal),
-}
+impl TpmUnmarshal for TicketBody {
+    ghost layout = { ticket_body };
 
-impl TicketBody {
-    pub(crate) fn unmarshal(s: &[u8], at: usize) -> TicketBodyRead
-        ensures { ticket_body_answer result ≡ read ticket_body s.now at }
-    {
-        let mut end = at;
-        let hierarchy = match TpmRh::unmarshal(s, end) {
-            TpmRhRead::Found(v, e) => {
-                end = e;
-                v
-            }
-            TpmRhRead::No(f) => return TicketBodyRead::No(f),
-        };
-        let digest = match buffer(s, end, Width::Two, limits::MAX_DIGEST_SIZE) {
-            SpanRead::Found(v, e) => {
-                end = e;
-                v
-            }
-            SpanRead::No(f) => return TicketBodyRead::No(f),
-        };
-        TicketBodyRead::Found(Self { hierarchy, digest }, end)
+    ghost parts = { ticket_body_parts };
+
+    fn unmarshal(s: &[u8], at: usize) -> Read<Self> {
+        let (hierarchy, end) = TpmRh::unmarshal(s, at)?;
+        let (digest, end) = buffer(s, end, Width::Two, limits::MAX_DIGEST_SIZE)?;
+        Ok((Self { hierarchy, digest }, end))
     }
 }

@@ -6,12 +6,11 @@ use mathlib.Core.Path.{◌≡◌, refl, sym, ap, ◌∙◌}
 use mathlib.Core.Bool.{Bool, true, false, cond}
 use mathlib.Core.List.{List, [], ◌∷◌}
 use lib.ListN.{length}
-use lib.Dec.{eqb, leb}
+use lib.Dec.{eqb}
 use borrow.Author.Tests.{eqb-true}
+use Rattle.std.specs.Prelude.{None, Option, Some, Err, Ok, Result}
+use Rattle.faults.specs.declared.Refusal.{Refusal}
 use Rattle.faults.specs.Faults.{no_field}
-use Rattle.wire.specs.declared.choice.Choice.{Choice}
-use Rattle.wire.specs.declared.choice.Choice.TheVariants.{Nothing, The}
-use Rattle.wire.specs.declared.measure.Measure.{Measure}
 use Rattle.wire.specs.Answers.{measure_answer}
 use Rattle.wire.specs.Bytes.{Bytes}
 use Rattle.wire.specs.Layout.{Rule, Layout, arm, number, buffer, ◌then◌}
@@ -50,24 +49,13 @@ pub lists_of_a_selection_list : (x : TpmlPcrSelection) → ListsOf (most_items P
 unfolding tpml_pcr_selection
 lists_of_a_selection_list x = one_list here
 
--- an attestation has no more than one
-pub one_list_at_most : (u : TpmuAttest) → leb (length (tpmu_attest_lists u)) 1 ≡ true
-one_list_at_most (TpmuAttest.Certify i) = refl
-one_list_at_most (TpmuAttest.Creation i) = refl
-one_list_at_most (TpmuAttest.Quote i) = refl
-one_list_at_most (TpmuAttest.CommandAudit i) = refl
-one_list_at_most (TpmuAttest.SessionAudit i) = refl
-one_list_at_most (TpmuAttest.Time i) = refl
-one_list_at_most (TpmuAttest.Nv i) = refl
-one_list_at_most (TpmuAttest.NvDigest i) = refl
-
 -- the arm that a legal union holds is the one that its selector chooses
-pub held_is_chosen : (c : Choice) (body : ℕ → Layout) (v : ℕ) (src : List ℕ) (ps : List Part) {ts : List Token} {bs : List ℕ} → Spells (union c body v) ts bs → ts ≡ shown src ps → c ≡ The (unions.held ps)
-held_is_chosen Nothing body v src ps d same = absurd (no_arm_no_record d)
-held_is_chosen (The u) body v src [] (holds d) same = absurd (clash (cc))
-held_is_chosen (The u) body v src (num n ∷ ps) (holds d) same = absurd (clash (cc))
-held_is_chosen (The u) body v src (tag t ∷ ps) (holds d) same = cc
-held_is_chosen (The u) body v src (span start len ∷ ps) (holds d) same = absurd (clash (cc))
+pub held_is_chosen : (c : Option ℕ) (body : ℕ → Layout) (v : ℕ) (src : List ℕ) (ps : List Part) {ts : List Token} {bs : List ℕ} → Spells (union c body v) ts bs → ts ≡ shown src ps → c ≡ Some (unions.held ps)
+held_is_chosen None body v src ps d same = absurd (no_arm_no_record d)
+held_is_chosen (Some u) body v src [] (holds d) same = absurd (clash (cc))
+held_is_chosen (Some u) body v src (num n ∷ ps) (holds d) same = absurd (clash (cc))
+held_is_chosen (Some u) body v src (tag t ∷ ps) (holds d) same = cc
+held_is_chosen (Some u) body v src (span start len ∷ ps) (holds d) same = absurd (clash (cc))
 
 -- so where one holds a quote, the layout has a quote there
 quote_is_due : (v : ℕ) (src : List ℕ) (ps : List Part) {ts : List Token} {bs : List ℕ} → Spells (tpmu_attest v) ts bs → ts ≡ shown src (tag attest_quote ∷ ps) → tpmu_attest v ≡ arm v attest_quote tpms_quote_info
@@ -139,11 +127,11 @@ abbrev pub Own : List Row → Type 0
 Own [] = Unit {0}
 Own (r ∷ rs) = (r.selector ≡ r.chooses) × Own rs
 
-pub own_arm_is_its_selector : (rs : List Row) → Own rs → (v t : ℕ) → arm_of rs v ≡ The t → v ≡ t
+pub own_arm_is_its_selector : (rs : List Row) → Own rs → (v t : ℕ) → arm_of rs v ≡ Some t → v ≡ t
 own_arm_is_its_selector [] o v t e = absurd (clash (cc))
 own_arm_is_its_selector (r ∷ rs) o v t e = go (eqb v r.selector) refl e (λ later. own_arm_is_its_selector rs o.1 v t later)
   where
-    go : (s : Bool) → eqb v r.selector ≡ s → cond s (The r.chooses) (arm_of rs v) ≡ The t → (arm_of rs v ≡ The t → v ≡ t) → v ≡ t
+    go : (s : Bool) → eqb v r.selector ≡ s → cond s (Some r.chooses) (arm_of rs v) ≡ Some t → (arm_of rs v ≡ Some t → v ≡ t) → v ≡ t
     go true q e rest = let same = eqb-true v r.selector q in let own = o.0 in cc
     go false q e rest = rest e
 
@@ -206,24 +194,24 @@ joined_alike f g (suc n) h = rw (h zero (omega arith), joined_alike (λ i. f (su
 -- The lists ls of a record of src are legal, as they are where the record was read (`lists_that_were_read_are_legal`). `part` is what `item`
 -- hands out for an index, and `size` what `item_size` answers
 module _ (which : ListOf) {src : List ℕ} {ls : List Part} (x : LegalLists src (most_items which) (item_layout which) ls) where
-  module _ (i : ℕ) {part : List ℕ} {size : Measure}
+  module _ (i : ℕ) {part : List ℕ} {size : Result ℕ Refusal}
       (handed : part ≡ part_of (item_of (most_items which) (item_layout which) ls i src))
       (measured : measure_answer size ≡ size_of (item_of (most_items which) (item_layout which) ls i src)) where
     -- below the count it is an item's bytes, spelled as its layout says, which the item's own reader reads to their end; and their length
     pub item_handed_out_is_legal : i < item_count x
-        → (ts : List Token) × (d : Spells (item_layout which) ts part) × (size ≡ Measure.Size (length part)) × (read (item_layout which) part 0 ≡ parsed (placed d 0) (length part))
+        → (ts : List Token) × (d : Spells (item_layout which) ts part) × (size ≡ Ok (length part)) × (read (item_layout which) part 0 ≡ parsed (placed d 0) (length part))
     item_handed_out_is_legal h =
         let (zs, ts, d, there, whole) = item_is_legal x i h in
         let same : zs ≡ part = sym (handed ∙ ap part_of there) in
         let answered : measure_answer size ≡ found (length part) = measured ∙ ap size_of there ∙ ap (λ ys. found (length ys)) same in
         let d' : Spells (item_layout which) ts part = rw same at d in
-        (ts, d', measure_answer_once size (Measure.Size (length part)) answered, spelled.spelled_is_read_to_its_end d')
+        (ts, d', measure_answer_once size (Ok (length part)) answered, spelled.spelled_is_read_to_its_end d')
 
     -- from the count on it is nothing, refused with the index; so it is for every index of a record without a list
-    pub past_the_count_nothing_is_handed_out : item_count x ≤ i → (part ≡ []) × (size ≡ Measure.No (no_field i))
+    pub past_the_count_nothing_is_handed_out : item_count x ≤ i → (part ≡ []) × (size ≡ Err (no_field i))
     past_the_count_nothing_is_handed_out h =
         let there = no_item x i h in
-        (handed ∙ ap part_of there, measure_answer_once size (Measure.No (no_field i)) (measured ∙ ap size_of there))
+        (handed ∙ ap part_of there, measure_answer_once size (Err (no_field i)) (measured ∙ ap size_of there))
 
   -- what is handed out for the indices below the count, one behind the other, is the list after its count
   pub items_handed_out_are_the_list : (parts : ℕ → List ℕ)

@@ -1,33 +1,16 @@
--- The parts of each type determine it, and no two answers of this crate mean the same. Assumes nothing.
+-- The parts of each type determine it. Assumes nothing.
 use mathlib.Core.Path.{refl}
 use mathlib.Core.List.{[], ◌∷◌}
-use Rattle.wire.proofs.Once.{Injective, Once, number_once, span_once, both, fields, holds, union, answers}
+use Rattle.wire.proofs.Once.{Once, number_once, span_once, both, fields, holds, union}
 use Rattle.codes.specs.Codes.{attest_nv, attest_command_audit, attest_session_audit, attest_certify, attest_quote, attest_time, attest_creation, attest_nv_digest}
 use Rattle.codes.proofs.Once.{tpm_alg_id_once, tpm_st_once}
-use Rattle.attest.specs.declared.list.TpmlPcrSelectionRead.{TpmlPcrSelectionRead}
-use Rattle.attest.specs.declared.tpms.TpmsClockInfoRead.{TpmsClockInfoRead}
-use Rattle.attest.specs.declared.tpms.TpmsTimeInfoRead.{TpmsTimeInfoRead}
-use Rattle.attest.specs.declared.tpms.TpmsCertifyInfoRead.{TpmsCertifyInfoRead}
-use Rattle.attest.specs.declared.tpms.TpmsCreationInfoRead.{TpmsCreationInfoRead}
-use Rattle.attest.specs.declared.tpms.TpmsQuoteInfoRead.{TpmsQuoteInfoRead}
-use Rattle.attest.specs.declared.tpms.TpmsCommandAuditInfoRead.{TpmsCommandAuditInfoRead}
-use Rattle.attest.specs.declared.tpms.TpmsSessionAuditInfoRead.{TpmsSessionAuditInfoRead}
-use Rattle.attest.specs.declared.tpms.TpmsTimeAttestInfoRead.{TpmsTimeAttestInfoRead}
-use Rattle.attest.specs.declared.tpms.TpmsNvCertifyInfoRead.{TpmsNvCertifyInfoRead}
-use Rattle.attest.specs.declared.tpms.TpmsNvDigestCertifyInfoRead.{TpmsNvDigestCertifyInfoRead}
 use Rattle.attest.specs.declared.tpmu.TpmuAttest.{TpmuAttest}
-use Rattle.attest.specs.declared.tpmu.TpmuAttestRead.{TpmuAttestRead}
-use Rattle.attest.specs.declared.attestation.TpmsAttestRead.{TpmsAttestRead}
 use Rattle.attest.specs.Parts.{tpml_pcr_selection_parts, tpms_clock_info_parts, tpms_time_info_parts, tpms_certify_info_parts, tpms_creation_info_parts, tpms_quote_info_parts, tpms_command_audit_info_parts, tpms_session_audit_info_parts, tpms_time_attest_info_parts, tpms_nv_certify_info_parts, tpms_nv_digest_certify_info_parts, tpmu_attest_parts, tpms_attest_parts}
-use Rattle.attest.specs.Answers.{tpml_pcr_selection_answer, tpms_clock_info_answer, tpms_time_info_answer, tpms_certify_info_answer, tpms_creation_info_answer, tpms_quote_info_answer, tpms_command_audit_info_answer, tpms_session_audit_info_answer, tpms_time_attest_info_answer, tpms_nv_certify_info_answer, tpms_nv_digest_certify_info_answer, tpmu_attest_answer, tpms_attest_answer}
 
 -- ---- kind 14
 
 pub tpml_pcr_selection_once : Once tpml_pcr_selection_parts
 tpml_pcr_selection_once = fields (λ s. s.items) (λ f. record { items = f }) (λ s. refl) span_once
-
-pub tpml_pcr_selection_answer_once : Injective tpml_pcr_selection_answer
-tpml_pcr_selection_answer_once = answers tpml_pcr_selection_once TpmlPcrSelectionRead.Found TpmlPcrSelectionRead.No tpml_pcr_selection_answer (λ back. elim [ TpmlPcrSelectionRead.Found x e ↦ back x e | TpmlPcrSelectionRead.No f ↦ refl ])
 
 -- ---- structures
 
@@ -90,41 +73,3 @@ tpmu_attest_once =
 
 pub tpms_attest_once : Once tpms_attest_parts
 tpms_attest_once = fields (λ s. (s.magic, (s.attest_type, (s.qualified_signer, (s.extra_data, (s.clock_info, (s.firmware_version, s.attested))))))) (λ (a, (b, (c, (d, (e, (f, g)))))). record { magic = a; attest_type = b; qualified_signer = c; extra_data = d; clock_info = e; firmware_version = f; attested = g }) (λ s. refl) (both number_once (both tpm_st_once (both span_once (both span_once (both tpms_clock_info_once (both number_once tpmu_attest_once))))))
-
--- ---- answers
-
-pub tpms_clock_info_answer_once : Injective tpms_clock_info_answer
-tpms_clock_info_answer_once = answers tpms_clock_info_once TpmsClockInfoRead.Found TpmsClockInfoRead.No tpms_clock_info_answer (λ back. elim [ TpmsClockInfoRead.Found x e ↦ back x e | TpmsClockInfoRead.No f ↦ refl ])
-
-pub tpms_time_info_answer_once : Injective tpms_time_info_answer
-tpms_time_info_answer_once = answers tpms_time_info_once TpmsTimeInfoRead.Found TpmsTimeInfoRead.No tpms_time_info_answer (λ back. elim [ TpmsTimeInfoRead.Found x e ↦ back x e | TpmsTimeInfoRead.No f ↦ refl ])
-
-pub tpms_certify_info_answer_once : Injective tpms_certify_info_answer
-tpms_certify_info_answer_once = answers tpms_certify_info_once TpmsCertifyInfoRead.Found TpmsCertifyInfoRead.No tpms_certify_info_answer (λ back. elim [ TpmsCertifyInfoRead.Found x e ↦ back x e | TpmsCertifyInfoRead.No f ↦ refl ])
-
-pub tpms_creation_info_answer_once : Injective tpms_creation_info_answer
-tpms_creation_info_answer_once = answers tpms_creation_info_once TpmsCreationInfoRead.Found TpmsCreationInfoRead.No tpms_creation_info_answer (λ back. elim [ TpmsCreationInfoRead.Found x e ↦ back x e | TpmsCreationInfoRead.No f ↦ refl ])
-
-pub tpms_quote_info_answer_once : Injective tpms_quote_info_answer
-tpms_quote_info_answer_once = answers tpms_quote_info_once TpmsQuoteInfoRead.Found TpmsQuoteInfoRead.No tpms_quote_info_answer (λ back. elim [ TpmsQuoteInfoRead.Found x e ↦ back x e | TpmsQuoteInfoRead.No f ↦ refl ])
-
-pub tpms_command_audit_info_answer_once : Injective tpms_command_audit_info_answer
-tpms_command_audit_info_answer_once = answers tpms_command_audit_info_once TpmsCommandAuditInfoRead.Found TpmsCommandAuditInfoRead.No tpms_command_audit_info_answer (λ back. elim [ TpmsCommandAuditInfoRead.Found x e ↦ back x e | TpmsCommandAuditInfoRead.No f ↦ refl ])
-
-pub tpms_session_audit_info_answer_once : Injective tpms_session_audit_info_answer
-tpms_session_audit_info_answer_once = answers tpms_session_audit_info_once TpmsSessionAuditInfoRead.Found TpmsSessionAuditInfoRead.No tpms_session_audit_info_answer (λ back. elim [ TpmsSessionAuditInfoRead.Found x e ↦ back x e | TpmsSessionAuditInfoRead.No f ↦ refl ])
-
-pub tpms_time_attest_info_answer_once : Injective tpms_time_attest_info_answer
-tpms_time_attest_info_answer_once = answers tpms_time_attest_info_once TpmsTimeAttestInfoRead.Found TpmsTimeAttestInfoRead.No tpms_time_attest_info_answer (λ back. elim [ TpmsTimeAttestInfoRead.Found x e ↦ back x e | TpmsTimeAttestInfoRead.No f ↦ refl ])
-
-pub tpms_nv_certify_info_answer_once : Injective tpms_nv_certify_info_answer
-tpms_nv_certify_info_answer_once = answers tpms_nv_certify_info_once TpmsNvCertifyInfoRead.Found TpmsNvCertifyInfoRead.No tpms_nv_certify_info_answer (λ back. elim [ TpmsNvCertifyInfoRead.Found x e ↦ back x e | TpmsNvCertifyInfoRead.No f ↦ refl ])
-
-pub tpms_nv_digest_certify_info_answer_once : Injective tpms_nv_digest_certify_info_answer
-tpms_nv_digest_certify_info_answer_once = answers tpms_nv_digest_certify_info_once TpmsNvDigestCertifyInfoRead.Found TpmsNvDigestCertifyInfoRead.No tpms_nv_digest_certify_info_answer (λ back. elim [ TpmsNvDigestCertifyInfoRead.Found x e ↦ back x e | TpmsNvDigestCertifyInfoRead.No f ↦ refl ])
-
-pub tpmu_attest_answer_once : Injective tpmu_attest_answer
-tpmu_attest_answer_once = answers tpmu_attest_once TpmuAttestRead.Found TpmuAttestRead.No tpmu_attest_answer (λ back. elim [ TpmuAttestRead.Found x e ↦ back x e | TpmuAttestRead.No f ↦ refl ])
-
-pub tpms_attest_answer_once : Injective tpms_attest_answer
-tpms_attest_answer_once = answers tpms_attest_once TpmsAttestRead.Found TpmsAttestRead.No tpms_attest_answer (λ back. elim [ TpmsAttestRead.Found x e ↦ back x e | TpmsAttestRead.No f ↦ refl ])

@@ -1,16 +1,13 @@
 -- The lists that a record keeps, by the grammar: there is none, or one; and which records of kinds 13 and 14 were read. Assumes nothing.
 use Rattle.std.specs.Prelude.{ℕ, ◌≡◌, List, [], ◌∷◌}
 use Rattle.wire.specs.Layout.{Layout}
-use Rattle.wire.specs.Records.{Part}
+use Rattle.wire.specs.Records.{Part, parsed}
 use Rattle.wire.specs.Reading.{read}
 use Rattle.wire.specs.Items.{ShowsList, ListPart}
 use Rattle.format.specs.Kinds.{tpms_attest, tpml_pcr_selection}
 use Rattle.attest.specs.declared.list.TpmlPcrSelection.{TpmlPcrSelection}
-use Rattle.attest.specs.declared.list.TpmlPcrSelectionRead.{TpmlPcrSelectionRead}
 use Rattle.attest.specs.declared.attestation.TpmsAttest.{TpmsAttest}
-use Rattle.attest.specs.declared.attestation.TpmsAttestRead.{TpmsAttestRead}
-use Rattle.attest.specs.Parts.{tpml_pcr_selection_parts, tpmu_attest_lists}
-use Rattle.attest.specs.Answers.{tpml_pcr_selection_answer, tpms_attest_answer}
+use Rattle.attest.specs.Parts.{tpml_pcr_selection_parts, tpms_attest_parts, tpmu_attest_lists}
 
 -- of the parts ps of a record of the layout l, ls are its lists: none, or one that the layout has a list for, of at most m items
 pub data ListsOf (m : ℕ) (item l : Layout) (ps : List Part) : List Part → Type 0 where
@@ -34,5 +31,5 @@ list_items (with_one x) = x.legal.items
 
 -- a record that the reader of its kind found in src, of kind 13 or 14; ls is what it has for lists
 pub data ReadWithLists (src : List ℕ) : List Part → Type 0 where
-  attestation : (x : TpmsAttest) (at e : ℕ) → tpms_attest_answer (TpmsAttestRead.Found x e) ≡ read tpms_attest src at → ReadWithLists src (tpmu_attest_lists x.attested)
-  selections : (x : TpmlPcrSelection) (at e : ℕ) → tpml_pcr_selection_answer (TpmlPcrSelectionRead.Found x e) ≡ read tpml_pcr_selection src at → ReadWithLists src (tpml_pcr_selection_parts x)
+  attestation : (x : TpmsAttest) (at e : ℕ) → parsed (tpms_attest_parts x) e ≡ read tpms_attest src at → ReadWithLists src (tpmu_attest_lists x.attested)
+  selections : (x : TpmlPcrSelection) (at e : ℕ) → parsed (tpml_pcr_selection_parts x) e ≡ read tpml_pcr_selection src at → ReadWithLists src (tpml_pcr_selection_parts x)

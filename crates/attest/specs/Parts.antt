@@ -1,5 +1,6 @@
 -- The parts of an attestation, in wire order; of a union the arm that it holds comes first. Assumes nothing.
-use Rattle.std.specs.Prelude.{List, [], ◌∷◌, ◌++◌}
+use mathlib.Core.Path.{refl}
+use Rattle.std.specs.Prelude.{List, [], ◌∷◌, ◌++◌, ◌≡◌, true, length, leb}
 use Rattle.wire.specs.Answers.{span_part}
 use Rattle.wire.specs.Records.{Part, num, tag}
 use Rattle.codes.specs.Codes.{attest_nv, attest_command_audit, attest_session_audit, attest_certify, attest_quote, attest_time, attest_creation, attest_nv_digest}
@@ -77,6 +78,17 @@ tpmu_attest_lists (TpmuAttest.SessionAudit i) = []
 tpmu_attest_lists (TpmuAttest.Time i) = []
 tpmu_attest_lists (TpmuAttest.Nv i) = []
 tpmu_attest_lists (TpmuAttest.NvDigest i) = []
+
+-- an attestation has no more than one
+pub one_list_at_most : (u : TpmuAttest) → leb (length (tpmu_attest_lists u)) 1 ≡ true
+one_list_at_most (TpmuAttest.Certify i) = refl
+one_list_at_most (TpmuAttest.Creation i) = refl
+one_list_at_most (TpmuAttest.Quote i) = refl
+one_list_at_most (TpmuAttest.CommandAudit i) = refl
+one_list_at_most (TpmuAttest.SessionAudit i) = refl
+one_list_at_most (TpmuAttest.Time i) = refl
+one_list_at_most (TpmuAttest.Nv i) = refl
+one_list_at_most (TpmuAttest.NvDigest i) = refl
 
 -- ---- kind 13
 

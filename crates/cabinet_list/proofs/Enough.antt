@@ -9,7 +9,7 @@ use lib.ListN.{length, take, drop}
 use lib.Seq.{length-take-le, take_all}
 use lib.Dec.{leb}
 use Rattle.faults.specs.Faults.{bad_kind, oversize}
-use Rattle.wire.specs.Bytes.{Bytes}
+use Rattle.wire.specs.Bytes.{Bytes, be}
 use Rattle.wire.specs.Records.{refused}
 use Rattle.wire.proofs.Digits.{be_lt}
 use Rattle.wire.proofs.Steps.{clash}
@@ -17,7 +17,7 @@ use Rattle.format.specs.Kinds.{is_kind}
 use Rattle.listing.specs.Listing.{judged, answer_text, record_text, listing, answered, is_found}
 use Rattle.listing.proofs.Deposits.{judged_unread}
 use Rattle.cabinet_list.specs.declared.form.Form.{Form}
-use Rattle.cabinet_list.specs.Forms.{size_in, sizes_agree, most_of, text_of, answer_of}
+use Rattle.cabinet_list.specs.Forms.{sizes_agree, most_of, text_of, answer_of}
 
 -- by cases: all that there is was read, or that much and more is there
 abbrev Enough : {A : Type 0} → (List ℕ → A) → ℕ → List ℕ → Type 0
@@ -56,15 +56,13 @@ unfolding answered
 deposit_read_by_4098 [] = refl
 deposit_read_by_4098 (k ∷ bs) = read_by_4097 k bs
 
--- a size in two bytes is below 65,536
-size_small : (a b : ℕ) (bs : List ℕ) → Bytes (a ∷ b ∷ bs) → size_in (a ∷ b ∷ bs) < 65536
-size_small a b bs y = rw (le-leb 2 (length (a ∷ b ∷ bs)) (omega arith)) (be_lt 2 (a ∷ b ∷ []) (y.0, (y.1.0, tt)) refl)
-
--- so with 65,536 bytes behind it or more it is another
+-- a size in two bytes is below 65,536, so with 65,536 bytes behind it or more it is another
 other_size : (k : ℕ) (bs : List ℕ) → Bytes bs → 65537 < length bs → sizes_agree (Form.Sized k) bs ≡ false
 other_size k [] y many = absurd (omega arith)
 other_size k (a ∷ []) y many = absurd (omega arith)
-other_size k (a ∷ b ∷ bs) y many = ne_eqb (size_in (a ∷ b ∷ bs)) (length bs) (λ same. absurd (omega (arith, size_small a b bs y)))
+other_size k (a ∷ b ∷ bs) y many =
+    rw (le-leb 2 (length (a ∷ b ∷ bs)) (omega arith))
+    (ne_eqb (be (a ∷ b ∷ [])) (length bs) (λ same. absurd (omega (arith, be_lt 2 (a ∷ b ∷ []) (y.0, (y.1.0, tt)) refl))))
 
 bytes_taken : (n : ℕ) (bs : List ℕ) → Bytes bs → Bytes (take n bs)
 bytes_taken zero bs y = tt

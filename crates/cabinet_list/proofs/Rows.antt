@@ -8,8 +8,8 @@ use mathlib.Core.List.{List, [], ◌∷◌, ◌++◌, append-nil, append_assoc}
 use lib.ListN.{length, take, drop, length-append, length-drop, drop_of_length-le}
 use lib.Seq.{take_all, drop-drop}
 use lib.Dec.{leb}
+use Rattle.std.specs.Prelude.{Err, Ok, Result, is_ok}
 use Rattle.faults.specs.declared.Refusal.{Refusal}
-use Rattle.wire.specs.declared.measure.Measure.{Measure}
 use Rattle.wire.specs.Answers.{measure_answer}
 use Rattle.wire.specs.Records.{Ans, found, refused}
 use Rattle.wire.specs.Fields.{size_of}
@@ -55,10 +55,14 @@ module _ {k : ℕ} {src : List ℕ} {at n all : ℕ} (x : Listed k src at n) (si
       by false t = leb-false (length src) at t
 
   -- and the next record is there
-  pub next_is_there : {r : Measure} {f : Refusal} → Ends k src at r → r ≡ Measure.No f → ⊥
+  pub next_is_there : {r : Result ℕ Refusal} {f : Refusal} → Ends k src at r → r ≡ Err f → ⊥
   next_is_there told fails = found_refused (sym (ap size_of (so_far_refused x.so_far bytes_left told fails)) ∙ size)
 
-  module _ {r : Measure} {e : ℕ} (told : Ends k src at r) (given : r ≡ Measure.Size e) where
+  pub next_is_read : (r : Result ℕ Refusal) → Ends k src at r → is_ok r ≡ true
+  next_is_read (Ok e) told = refl
+  next_is_read (Err f) told = absurd (next_is_there told refl)
+
+  module _ {r : Result ℕ Refusal} {e : ℕ} (told : Ends k src at r) (given : r ≡ Ok e) where
     further : SoFar k src e (x.ends ++ (e ∷ []))
     further = so_far_more x.so_far bytes_left told given
 
@@ -133,7 +137,7 @@ module _ (n at : ℕ) {old mid : List ℕ} {m : ℕ} (room : 16436 ≤ length ol
   line_inside = omega (arith, few, same)
 
   -- and the listing into what is left behind it, where there is room for every listing
-  module _ (k : ℕ) (bs : List ℕ) {r : Measure} {part : List ℕ} (lists : Lists (record_text k bs) (take (length mid - m) (drop m mid)) r part) where
+  module _ (k : ℕ) (bs : List ℕ) {r : Result ℕ Refusal} {part : List ℕ} (lists : Lists (record_text k bs) (take (length mid - m) (drop m mid)) r part) where
     lent : take (length mid - m) (drop m mid) ≡ drop m mid
     lent = take_all (length mid - m) (drop m mid) (omega (arith, length-drop m mid))
 
@@ -143,18 +147,15 @@ module _ (n at : ℕ) {old mid : List ℕ} {m : ℕ} (room : 16436 ≤ length ol
     fits : length (record_text k bs) ≤ length (take (length mid - m) (drop m mid))
     fits = every_listing_fits lists (omega (arith, ap length lent, length-drop m mid, few, same))
 
-    listed : r ≡ Measure.Size (length (record_text k bs))
+    listed : r ≡ Ok (length (record_text k bs))
     listed = (whole_listing_is_there lists fits).0
 
-    pub entry_never_refused : {f : Refusal} → r ≡ Measure.No f → ⊥
-    entry_never_refused fails = found_refused (ap measure_answer (sym fails ∙ listed))
+    pub entry_is_listed : is_ok r ≡ true
+    entry_is_listed = rw listed
 
-    module _ {j : ℕ} (given : r ≡ Measure.Size j) where
+    module _ {j : ℕ} (given : r ≡ Ok j) where
       size : length (record_text k bs) ≡ j
       size = found_same (ap measure_answer (sym listed ∙ given))
-
-      pub entry_small : m + j ≤ 16436
-      entry_small = omega (arith, few, size, lists.most)
 
       pub entry_puts : Puts 0 (entry_text k n at bs) old (m + j) (take m mid ++ (part ++ drop (length mid - m) (drop m mid)))
       unfolding entry_text

@@ -1,107 +1,71 @@
 // Reading and writing, by calls whose every answer is looked at. A call that a signal broke off is made again.
-ghost use Rattle.std.specs.Prelude.{◌≤◌, length};
+ghost use Rattle.std.specs.Prelude.{length};
 ghost use Rattle.cabinet_list.specs.Calls.{MovedWithin, TakenWithin};
 
+use std::io;
 use std::io::{Error, ErrorKind, Read, Write};
 
-// What a call came to: it moved so many bytes, it moved none, it was broken off by a signal, or it failed, for this reason.
-#[derive(Clone, Copy)]
-enum Moved {
-    Bytes(usize),
-    None,
-    BrokenOff,
-    Failed(Error),
-}
-
-// What has been read: so many bytes, and then the input ended or the slice was full; or a call failed.
-#[derive(Clone, Copy)]
-pub enum Taken {
-    Bytes(usize),
-    Failed(Error),
-}
-
-fn came(got: Result<usize, Error>, buf: &[u8]) -> Moved
+// What a call came to: how many bytes it moved, or nothing, if a signal broke it off; or why it failed.
+fn came(got: io::Result<usize>, buf: &[u8]) -> io::Result<Option<usize>>
     ensures { MovedWithin result (length buf.now) }
 {
     match got {
-        Ok(0) => Moved::None,
-        Ok(n) => Moved::Bytes(n.min(buf.len())),
-        Err(why) => {
-            if why.kind() == ErrorKind::Interrupted {
-                return Moved::BrokenOff;
-            }
-            Moved::Failed(why)
-        }
+        Ok(n) => Ok(Some(n.min(buf.len()))),
+        Err(why) if why.kind() == ErrorKind::Interrupted => Ok(None),
+        Err(why) => Err(why),
     }
 }
 
-fn read_some<R: Read>(from: &mut R, buf: &mut [u8]) -> Moved
+fn read_some<R: Read>(from: &mut R, buf: &mut [u8]) -> io::Result<Option<usize>>
     ensures { MovedWithin result (length buf.new) }
 {
-    if buf.len() == 0 {
-        return Moved::None;
+    if buf.is_empty() {
+        return Ok(Some(0));
     }
     let got = from.read(buf);
     came(got, buf)
 }
 
-fn write_some<W: Write>(to: &mut W, buf: &[u8]) -> Moved
+fn write_some<W: Write>(to: &mut W, buf: &[u8]) -> io::Result<Option<usize>>
     ensures { MovedWithin result (length buf.now) }
 {
-    if buf.len() == 0 {
-        return Moved::None;
-    }
     came(to.write(buf), buf)
 }
 
-// Fills buf from the reader, as far as that goes. A proved loop has to end, and nothing says that signals do: it counts up to a
-// number that no run reaches.
-pub fn take<R: Read>(from: &mut R, buf: &mut [u8]) -> Taken
+// Fills buf from the reader, as far as that goes: how many bytes were read when the input ended or buf was full, or why a call failed. A
+// proved loop has to end, and nothing says that signals do: it counts up to a number that no run reaches.
+pub fn take<R: Read>(from: &mut R, buf: &mut [u8]) -> io::Result<usize>
     ensures { TakenWithin result (length buf.new) }
 {
     let mut done: usize = 0;
     for _ in 0..u64::MAX {
-        match read_some(from, &mut buf[done..]) {
-            Moved::Bytes(n) => {
-                done += n;
-            }
-            Moved::None => {
-                return Taken::Bytes(done);
-            }
-            Moved::BrokenOff => {}
-            Moved::Failed(why) => {
-                return Taken::Failed(why);
-            }
+        match read_some(from, &mut buf[done..])? {
+            Some(0) => return Ok(done),
+            Some(n) => done += n,
+            None => {}
         }
     }
-    Taken::Failed(Error::from(ErrorKind::Interrupted))
+    Err(Error::from(ErrorKind::Interrupted))
 }
 
 // The same of standard input.
-pub fn take_input(rt: HostRuntime, buf: &mut [u8]) -> Taken
+pub fn take_input(rt: HostRuntime, buf: &mut [u8]) -> io::Result<usize>
     ensures { TakenWithin result (length buf.new) }
 {
     take(&mut rt.stdin(), buf)
 }
 
-// Whether all of buf was written, or why not.
-pub fn give<W: Write>(to: &mut W, buf: &[u8]) -> Result<(), Error> {
-    let mut done: usize = 0;
+// Writes all of buf, or answers why not.
+pub fn give<W: Write>(to: &mut W, buf: &[u8]) -> io::Result<()> {
+    let mut rest = buf;
     for _ in 0..u64::MAX {
-        match write_some(to, &buf[done..]) {
-            Moved::Bytes(n) => {
-                done += n;
-            }
-            Moved::None => {
-                if done == buf.len() {
-                    return Ok(());
-                }
-                return Err(Error::from(ErrorKind::WriteZero));
-            }
-            Moved::BrokenOff => {}
-            Moved::Failed(why) => {
-                return Err(why);
-            }
+        if rest.is_empty() {
+            return Ok(());
+        }
+        match write_some(to, rest)? {
+            Some(0) => return Err(Error::from(ErrorKind::WriteZero)),
+            Some(n) => rest = &rest[n..],
+            None => {}
         }
     }
     Err(Error::from(ErrorKind::Interrupted))

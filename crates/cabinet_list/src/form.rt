@@ -3,9 +3,12 @@ ghost use Rattle.std.specs.Prelude.{◌≡◌, ◌≤◌, drop};
 ghost use Rattle.listing.specs.Listing.{is_found, Lists};
 ghost use Rattle.cabinet_list.specs.Forms.{size_in, sizes_agree, most_of, text_of, answer_of};
 
-use codes::uint::{Uint16Read, uint16};
-use listing::deposit::{is_deposit_read, is_record_read, list_deposit, list_record};
-use wire::measure::Measure;
+use faults::Refusal;
+use listing::deposit::{RECORD_MOST, is_deposit_read, is_record_read, list_deposit, list_record};
+use wire::unmarshal::TpmUnmarshal;
+
+// Two bytes of size, and one byte more than they can say.
+pub const SIZED_MOST: usize = 65538;
 
 // A deposit: a kind byte, and then the record. A record of a kind that is known. Such a record behind its size in two bytes: a TPM2B.
 #[derive(Clone, Copy)]
@@ -15,24 +18,24 @@ pub enum Form {
     Sized(u8),
 }
 
-// The size that stands in front, 65,536 where there are fewer than two bytes.
-pub fn size_in(bytes: &[u8]) -> usize
+// The size that stands in front, if its two bytes are there.
+pub fn size_in(bytes: &[u8]) -> Option<usize>
     ensures { result ≡ size_in bytes.now }
 {
-    match uint16(bytes, 0) {
-        Uint16Read::Found(size, _) => size as usize,
-        Uint16Read::No(_f) => 65536,
+    match u16::unmarshal(bytes, 0) {
+        Ok((size, _)) => Some(usize::from(size)),
+        Err(_) => None,
     }
 }
 
 // What stands behind the size.
-pub fn behind_size<'a>(bytes: &'a [u8]) -> &'a [u8]
+pub fn behind_size(bytes: &[u8]) -> &[u8]
     ensures { result.now ≡ drop 2 bytes.now }
 {
-    if bytes.len() < 2 {
-        return &bytes[0..0];
+    match bytes {
+        [_, _, rest @ ..] => rest,
+        _ => &[],
     }
-    &bytes[2..]
 }
 
 // Whether the size in front is that of what follows it, where one stands there.
@@ -40,9 +43,8 @@ pub fn sizes_agree(form: Form, bytes: &[u8]) -> bool
     ensures { result ≡ sizes_agree form bytes.now }
 {
     match form {
-        Form::Deposit => true,
-        Form::Record(_) => true,
-        Form::Sized(_kind) => size_in(bytes) == behind_size(bytes).len(),
+        Form::Deposit | Form::Record(_) => true,
+        Form::Sized(_) => size_in(bytes) == Some(behind_size(bytes).len()),
     }
 }
 
@@ -51,14 +53,14 @@ pub fn most(form: Form) -> usize
     ensures { (result ≡ most_of form) × (result ≤ 65538) }
 {
     match form {
-        Form::Deposit => 4098,
-        Form::Record(_) => 4097,
-        Form::Sized(_) => 65538,
+        Form::Deposit => RECORD_MOST + 2,
+        Form::Record(_) => RECORD_MOST + 1,
+        Form::Sized(_) => SIZED_MOST,
     }
 }
 
 // The listing of it, at the start of out.
-pub fn list(form: Form, bytes: &[u8], out: &mut [u8]) -> Measure
+pub fn list(form: Form, bytes: &[u8], out: &mut [u8]) -> Result<usize, Refusal>
     ensures { Lists (text_of form bytes.now) out.old result out.new }
 {
     match form {

@@ -1,5 +1,5 @@
 // How it went, as the digit that is told on descriptor 3, and what is said and written on the way to it.
-ghost use Rattle.std.specs.Prelude.{◌≡◌, ◌≤◌, length};
+ghost use Rattle.std.specs.Prelude.{◌≤◌, length};
 
 use crate::calls::give;
 use std::fs;
@@ -7,20 +7,26 @@ use std::io::{Error, ErrorKind, Write};
 use std::os::fd::AsFd;
 use std_io::io::last_error;
 
-pub const READ: u8 = b'0';
+#[derive(Clone, Copy)]
+pub enum Outcome {
+    Read,
+    Refused,
+    Trouble,
+}
 
-pub const REFUSED: u8 = b'1';
-
-pub const TROUBLE: u8 = b'2';
+impl Outcome {
+    // The digit that says so.
+    pub fn digit(self) -> u8 {
+        match self {
+            Outcome::Read => b'0',
+            Outcome::Refused => b'1',
+            Outcome::Trouble => b'2',
+        }
+    }
+}
 
 // How often a byte is written to descriptor 3.
 const TRIES: usize = 1000;
-
-fn words_room() -> [u8; 256]
-    ensures { 256 ≡ length result }
-{
-    [0; 256]
-}
 
 // Puts a reason at the start of out, as far as that goes.
 fn put_reason(why: Error, out: &mut [u8]) -> usize
@@ -37,34 +43,34 @@ fn words_of(reason: &[u8]) -> &[u8] {
     match std::str::from_utf8(reason) {
         Ok(text) => match text.split_once(" (os error ") {
             Some((words, _)) => words.as_bytes(),
-            None => text.as_bytes(),
+            None => reason,
         },
         Err(_) => reason,
     }
 }
 
 // A call failed: what it was about, and the system's words for why.
-pub fn failed(rt: HostRuntime, what: &[u8], why: Error) -> u8 {
-    let mut room = words_room();
+pub fn failed(rt: HostRuntime, what: &[u8], why: Error) -> Outcome {
+    let mut room = [0u8; 256];
     let n = put_reason(why, &mut room);
     let mut err = rt.stderr();
     let _ = give(&mut err, what);
     let _ = give(&mut err, b": ");
     let _ = give(&mut err, words_of(&room[..n]));
     let _ = give(&mut err, b"\n");
-    TROUBLE
+    Outcome::Trouble
 }
 
 // A line in words of our own.
-pub fn say(rt: HostRuntime, name: &[u8], words: &[u8]) -> u8 {
+pub fn say(rt: HostRuntime, name: &[u8], words: &[u8]) -> Outcome {
     let mut err = rt.stderr();
     let _ = give(&mut err, name);
     let _ = give(&mut err, words);
-    TROUBLE
+    Outcome::Trouble
 }
 
 // Standard output takes no more: the system's words say why.
-pub fn unwritten(rt: HostRuntime, why: Error) -> u8 {
+pub fn unwritten(rt: HostRuntime, why: Error) -> Outcome {
     failed(rt, b"cabinet-list: standard output", why)
 }
 
@@ -72,10 +78,8 @@ pub fn unwritten(rt: HostRuntime, why: Error) -> u8 {
 fn mark(rt: HostRuntime) -> Result<(), Error> {
     match fs::metadata(&rt, "") {
         Ok(_) => Err(Error::from(ErrorKind::Other)),
-        Err(why) => match why.kind() {
-            ErrorKind::NotFound => Ok(()),
-            _ => Err(why),
-        },
+        Err(why) if why.kind() == ErrorKind::NotFound => Ok(()),
+        Err(why) => Err(why),
     }
 }
 
@@ -87,9 +91,10 @@ fn closed(rt: HostRuntime) -> Result<(), Error> {
     drop(second);
     let why = last_error();
     if why.kind() == ErrorKind::NotFound {
-        return Ok(());
+        Ok(())
+    } else {
+        Err(why)
     }
-    Err(why)
 }
 
 // Whether it is written, or why it is not.
@@ -98,10 +103,10 @@ fn is_written(rt: HostRuntime, text: &[u8]) -> Result<(), Error> {
     closed(rt)
 }
 
-// The last of what is written, and whether all of it was.
-pub fn write_listing(rt: HostRuntime, text: &[u8], read: bool) -> u8 {
+// The last of what is written, and how it went if all of it was.
+pub fn write_listing(rt: HostRuntime, text: &[u8], outcome: Outcome) -> Outcome {
     match is_written(rt, text) {
-        Ok(()) => { if read { READ } else { REFUSED } }
+        Ok(()) => outcome,
         Err(why) => unwritten(rt, why),
     }
 }
@@ -109,10 +114,5 @@ pub fn write_listing(rt: HostRuntime, text: &[u8], read: bool) -> u8 {
 // Says a byte on descriptor 3, and whether that was possible. The library has no handle of it and does not say why a call failed. One of
 // a single byte has then written nothing, and is made again, in case that a signal broke it off.
 pub fn tell(byte: u8) -> bool {
-    for _ in 0..TRIES {
-        if io::write_all(3, &[byte]) {
-            return true;
-        }
-    }
-    false
+    (0..TRIES).any(|_| io::write_all(3, &[byte]))
 }

@@ -1,25 +1,20 @@
 -- The arms of capabilities by their rows: what is chosen is the arm of the capability's own code, and holds the list of that row. Assumes nothing.
-use Prim.Native.Nat.{ℕ, zero, suc, ◌-◌, ◌≤◌}
-use native.Mathlib.Omega.{arith}
+use Prim.Native.Nat.{ℕ, zero, suc}
 use mathlib.Core.Path.{◌≡◌, refl, sym, ap, ◌∙◌}
 use mathlib.Core.Bool.{Bool, true, false}
 use mathlib.Core.List.{List, [], ◌∷◌}
 use lib.Dec.{eqb}
 use borrow.Author.Tests.{eqb-true}
+use Rattle.std.specs.Prelude.{None, Option, Some}
 use Rattle.faults.specs.declared.Refusal.{Refusal}
 use Rattle.faults.specs.Faults.{no_such_arm}
-use Rattle.wire.specs.declared.choice.Choice.{Choice}
-use Rattle.wire.specs.declared.choice.Choice.TheVariants.{Nothing, The}
 use Rattle.wire.specs.declared.span.Span.{Span}
 use Rattle.wire.specs.Answers.{span_part}
-use Rattle.wire.specs.Bytes.{Bytes}
 use Rattle.wire.specs.Layout.{stop, arm}
-use Rattle.wire.specs.Records.{span, found, refused, parsed}
-use Rattle.wire.specs.Reading.{list, read}
+use Rattle.wire.specs.Records.{refused, parsed}
+use Rattle.wire.specs.Reading.{read}
 use Rattle.wire.specs.Unions.{is_arm}
-use Rattle.wire.proofs.Leaves.{list_found, list_refused}
-use Rattle.wire.proofs.Sound.{list_sound, read_sound}
-use Rattle.codes.proofs.Choices.{Each, Unmatched, nothing_chosen, chosen_has}
+use Rattle.codes.proofs.Choices.{Each, nothing_chosen, chosen_has}
 use Rattle.format.specs.declared.list.ListOf.{ListOf}
 use Rattle.format.specs.Kinds.{item_layout, most_items, tpml, tpml_pcr_selection, tpmu_capabilities_table, tpmu_capabilities_arm, tpmu_capabilities_body, tpmu_capabilities}
 use Rattle.format.proofs.Tables.{◌&◌}
@@ -33,7 +28,7 @@ use Rattle.capabilities.specs.Parts.{code_of, list_of, items_of, arm_for, tpmu_c
 -- ---- a row an arm
 
 -- an arm that is held is the one that its code chooses
-code_chooses : (u : TpmuCapabilities) → tpmu_capabilities_arm (code_of u) ≡ The (code_of u)
+code_chooses : (u : TpmuCapabilities) → tpmu_capabilities_arm (code_of u) ≡ Some (code_of u)
 unfolding tpmu_capabilities_arm
 code_chooses (TpmuCapabilities.Algs x) = refl
 code_chooses (TpmuCapabilities.Handles x) = refl
@@ -74,27 +69,28 @@ items_kept (suc (suc (suc (suc (suc (suc (suc (suc zero)))))))) s = refl
 items_kept (suc (suc (suc (suc (suc (suc (suc (suc (suc zero))))))))) s = refl
 items_kept (suc (suc (suc (suc (suc (suc (suc (suc (suc (suc n)))))))))) s = refl
 
--- what is none of the codes ahead of the last, is of the last arm
-abbrev pub codes_ahead : List (List ℕ)
-codes_ahead = (9 ∷ []) ∷ (8 ∷ []) ∷ (6 ∷ []) ∷ (5 ∷ []) ∷ (4 ∷ []) ∷ (3 ∷ []) ∷ (2 ∷ []) ∷ (1 ∷ []) ∷ (0 ∷ []) ∷ []
+-- the arm of a code is the arm of that number
+pub arm_there : (x : ℕ) {v : ℕ} (s : Span) → v ≡ x → arm_for x s ≡ arm_for v s
+arm_there x s e = ap (λ n. arm_for n s) (sym e)
 
-pub else_last : (v : ℕ) (s : Span) → Unmatched codes_ahead v → TpmuCapabilities.Act (record { items = s }) ≡ arm_for v s
-else_last zero s u = absurd (u.0.0.0.0.0.0.0.0.1 refl)
-else_last (suc zero) s u = absurd (u.0.0.0.0.0.0.0.1 refl)
-else_last (suc (suc zero)) s u = absurd (u.0.0.0.0.0.0.1 refl)
-else_last (suc (suc (suc zero))) s u = absurd (u.0.0.0.0.0.1 refl)
-else_last (suc (suc (suc (suc zero)))) s u = absurd (u.0.0.0.0.1 refl)
-else_last (suc (suc (suc (suc (suc zero))))) s u = absurd (u.0.0.0.1 refl)
-else_last (suc (suc (suc (suc (suc (suc zero)))))) s u = absurd (u.0.0.1 refl)
-else_last (suc (suc (suc (suc (suc (suc (suc zero))))))) s u = refl
-else_last (suc (suc (suc (suc (suc (suc (suc (suc zero)))))))) s u = absurd (u.0.1 refl)
-else_last (suc (suc (suc (suc (suc (suc (suc (suc (suc zero))))))))) s u = absurd (u.1 refl)
-else_last (suc (suc (suc (suc (suc (suc (suc (suc (suc (suc n)))))))))) s u = refl
+-- what is none of the codes ahead of the last, is of the last arm
+pub else_last : (v : ℕ) (s : Span) → (v ≡ 0 → ⊥) → (v ≡ 1 → ⊥) → (v ≡ 2 → ⊥) → (v ≡ 3 → ⊥) → (v ≡ 4 → ⊥) → (v ≡ 5 → ⊥) → (v ≡ 6 → ⊥) → (v ≡ 8 → ⊥) → (v ≡ 9 → ⊥) → TpmuCapabilities.Act (record { items = s }) ≡ arm_for v s
+else_last zero s h _ _ _ _ _ _ _ _ = absurd (h refl)
+else_last (suc zero) s _ h _ _ _ _ _ _ _ = absurd (h refl)
+else_last (suc (suc zero)) s _ _ h _ _ _ _ _ _ = absurd (h refl)
+else_last (suc (suc (suc zero))) s _ _ _ h _ _ _ _ _ = absurd (h refl)
+else_last (suc (suc (suc (suc zero)))) s _ _ _ _ h _ _ _ _ = absurd (h refl)
+else_last (suc (suc (suc (suc (suc zero))))) s _ _ _ _ _ h _ _ _ = absurd (h refl)
+else_last (suc (suc (suc (suc (suc (suc zero)))))) s _ _ _ _ _ _ h _ _ = absurd (h refl)
+else_last (suc (suc (suc (suc (suc (suc (suc zero))))))) s _ _ _ _ _ _ _ _ _ = refl
+else_last (suc (suc (suc (suc (suc (suc (suc (suc zero)))))))) s _ _ _ _ _ _ _ h _ = absurd (h refl)
+else_last (suc (suc (suc (suc (suc (suc (suc (suc (suc zero))))))))) s _ _ _ _ _ _ _ _ h = absurd (h refl)
+else_last (suc (suc (suc (suc (suc (suc (suc (suc (suc (suc (n))))))))))) s _ _ _ _ _ _ _ _ _ = refl
 
 -- ---- what a capability chooses
 
 -- the arm with its own code, and that of the row
-pub chosen_own : (v : ℕ) {t : ℕ} → tpmu_capabilities_arm v ≡ The t → v ≡ t
+pub chosen_own : (v : ℕ) {t : ℕ} → tpmu_capabilities_arm v ≡ Some t → v ≡ t
 unfolding tpmu_capabilities_arm
 chosen_own v {t} e = own_arm_is_its_selector tpmu_capabilities_table (refl & refl & refl & refl & refl & refl & refl & refl & refl & refl & tt) v t e
 
@@ -103,7 +99,7 @@ record Made (s : Span) (t : ℕ) : Type 0 where
   pub code : code_of (arm_for t s) ≡ t
   pub body : tpmu_capabilities_body t ≡ tpml (list_of (arm_for t s))
 
-chosen_made : (v : ℕ) {t : ℕ} (s : Span) → tpmu_capabilities_arm v ≡ The t → Made s v
+chosen_made : (v : ℕ) {t : ℕ} (s : Span) → tpmu_capabilities_arm v ≡ Some t → Made s v
 unfolding tpmu_capabilities_arm tpml_pcr_selection
 chosen_made v {t} s e = rw (chosen_own v e) (chosen_has (λ t. Made s t) tpmu_capabilities_table rows v e)
   where
@@ -114,50 +110,46 @@ chosen_made v {t} s e = rw (chosen_own v e) (chosen_has (λ t. Made s t) tpmu_ca
 -- ---- the union read
 
 module _ (v at : ℕ) (src : List ℕ) where
-  chosen_is : {t : ℕ} (s : Span) → tpmu_capabilities_arm v ≡ The t → tpmu_capabilities v ≡ arm v v (tpml (list_of (arm_for v s)))
+  chosen_is : {t : ℕ} (s : Span) → tpmu_capabilities_arm v ≡ Some t → tpmu_capabilities v ≡ arm v v (tpml (list_of (arm_for v s)))
   unfolding tpmu_capabilities
-  chosen_is s e = rw (e ∙ ap The (sym (chosen_own v e)), (chosen_made v s e).body) refl
+  chosen_is s e = rw (e ∙ ap Some (sym (chosen_own v e)), (chosen_made v s e).body) refl
 
   -- the list was found: it is the arm's
-  pub capability_found : {t e : ℕ} (s : Span) {a u : TpmuCapabilities} {items : Span} {w : ListOf} → tpmu_capabilities_arm v ≡ The t → a ≡ arm_for v s → w ≡ list_of a → found e ≡ list (most_items w) (λ xs i. read (item_layout w) xs i) src at
-      → u ≡ arm_for v items → span_part items ≡ span at (e - at) → parsed (tpmu_capabilities_parts u) e ≡ read (tpmu_capabilities v) src at
+  pub capability_found : {t e : ℕ} (s : Span) {a u : TpmuCapabilities} {items : Span} {w : ListOf} → tpmu_capabilities_arm v ≡ Some t → a ≡ arm_for v s → w ≡ list_of a → parsed (span_part items ∷ []) e ≡ read (tpml w) src at
+      → u ≡ arm_for v items → parsed (tpmu_capabilities_parts u) e ≡ read (tpmu_capabilities v) src at
   unfolding read
-  capability_found {e = e} s {a} {u} {items} c is which-is there made stands =
+  capability_found {e = e} s {a} {u} {items} c is which-is there made =
       let which = list_of (arm_for v s) in
-      let same : found e ≡ list (most_items which) (λ xs i. read (item_layout which) xs i) src at = rw (which-is, is) at there in
+      let same : parsed (span_part items ∷ []) e ≡ read (tpml which) src at = rw (which-is, is) at there in
       let code : code_of u ≡ v = ap code_of made ∙ (chosen_made v items c).code in
-      let kept : span_part (items_of u) ≡ span at (e - at) = ap (λ x. span_part (items_of x)) made ∙ ap span_part (items_kept v items) ∙ stands in
-      rw (chosen_is s c, code, kept, list_found (most_items which) (item_layout which) stop src at same) refl
+      let kept : span_part (items_of u) ≡ span_part items = ap (λ x. span_part (items_of x)) made ∙ ap span_part (items_kept v items) in
+      rw (chosen_is s c, code, kept, ← same) refl
 
-  pub capability_refused : {t : ℕ} {f : Refusal} (s : Span) {a : TpmuCapabilities} {w : ListOf} → tpmu_capabilities_arm v ≡ The t → a ≡ arm_for v s → w ≡ list_of a → refused f ≡ list (most_items w) (λ xs i. read (item_layout w) xs i) src at
+  pub capability_refused : {t : ℕ} {f : Refusal} (s : Span) {a : TpmuCapabilities} {w : ListOf} → tpmu_capabilities_arm v ≡ Some t → a ≡ arm_for v s → w ≡ list_of a → refused f ≡ read (tpml w) src at
       → refused f ≡ read (tpmu_capabilities v) src at
   unfolding read
   capability_refused {f = f} s {a} c is which-is there =
       let which = list_of (arm_for v s) in
-      let same : refused f ≡ list (most_items which) (λ xs i. read (item_layout which) xs i) src at = rw (which-is, is) at there in
-      rw (chosen_is s c, list_refused (most_items which) (item_layout which) stop src at same) refl
+      let same : refused f ≡ read (tpml which) src at = rw (which-is, is) at there in
+      rw (chosen_is s c, ← same) refl
 
   -- a capability without an arm
-  pub no_capability_arm : Nothing ≡ tpmu_capabilities_arm v → refused (no_such_arm at v) ≡ read (tpmu_capabilities v) src at
+  pub no_capability_arm : None ≡ tpmu_capabilities_arm v → refused (no_such_arm at v) ≡ read (tpmu_capabilities v) src at
   unfolding read tpmu_capabilities
   no_capability_arm c = rw (← c) refl
-
--- a list ends behind its start
-pub list_ahead : (v : ℕ) (s : Span) (src : List ℕ) (at : ℕ) {a : TpmuCapabilities} {w : ListOf} {e : ℕ} → a ≡ arm_for v s → w ≡ list_of a → Bytes src → found e ≡ list (most_items w) (λ xs i. read (item_layout w) xs i) src at → at ≤ e
-list_ahead v s src at {w = w} made is b p = omega (arith, (list_sound (most_items w) (item_layout w) (read_sound (item_layout w)) src at b (sym p)).ends)
 
 -- ---- the arm that is held is the one that is chosen, or another
 
 pub is_own_arm : (v : ℕ) (u : TpmuCapabilities) {n : ℕ} → n ≡ code_of u → eqb n v ≡ is_arm (tpmu_capabilities_arm v) (code_of u)
 is_own_arm v u {n} e = ap (λ m. eqb m v) e ∙ by (tpmu_capabilities_arm v) refl
   where
-    differs : (b : Bool) → eqb (code_of u) v ≡ b → tpmu_capabilities_arm v ≡ Nothing → b ≡ false
+    differs : (b : Bool) → eqb (code_of u) v ≡ b → tpmu_capabilities_arm v ≡ None → b ≡ false
     differs true p q = let same : code_of u ≡ v = eqb-true (code_of u) v p in absurd (nothing_chosen (sym q ∙ sym (ap tpmu_capabilities_arm same) ∙ code_chooses u))
     differs false p q = refl
 
-    by : (c : Choice) → tpmu_capabilities_arm v ≡ c → eqb (code_of u) v ≡ is_arm c (code_of u)
-    by Nothing q = differs (eqb (code_of u) v) refl q
-    by (The t) q = ap (λ m. eqb (code_of u) m) (chosen_own v q)
+    by : (c : Option ℕ) → tpmu_capabilities_arm v ≡ c → eqb (code_of u) v ≡ is_arm c (code_of u)
+    by None q = differs (eqb (code_of u) v) refl q
+    by (Some t) q = ap (λ m. eqb (code_of u) m) (chosen_own v q)
 
 -- ---- the walk over the list of the arm that is held
 

@@ -6,7 +6,7 @@ use mathlib.Core.Bool.{true}
 use mathlib.Core.List.{List}
 use lib.Dec.{leb}
 use lib.ListN.{length}
-use Rattle.wire.specs.declared.choice.Choice.TheVariants.{The}
+use Rattle.std.specs.Prelude.{Some}
 use Rattle.wire.specs.Answers.{span_part}
 use Rattle.wire.specs.Bytes.{Bytes}
 use Rattle.wire.specs.Layout.{Layout, arm}
@@ -31,7 +31,7 @@ module _ (x : TpmsCapabilityData) (src : List ℕ) (at : ℕ) {e : ℕ} (b : Byt
   asked = x.capability.0
 
   -- the arm that it holds is the one that its capability chooses
-  chosen : tpmu_capabilities_arm asked ≡ The (code_of x.data)
+  chosen : tpmu_capabilities_arm asked ≡ Some (code_of x.data)
   unfolding tpms_capability_data tpmu_capabilities
   chosen =
       let (d, same, showing) = accepted_is_legal tpms_capability_data src at b there in

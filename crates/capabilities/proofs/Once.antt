@@ -2,7 +2,7 @@
 use mathlib.Core.Path.{refl}
 use mathlib.Core.List.{[], ◌∷◌}
 use Rattle.wire.specs.Answers.{span_part}
-use Rattle.wire.proofs.Once.{Injective, Once, span_once, both, fields, union, holds, answers}
+use Rattle.wire.proofs.Once.{Once, span_once, both, fields, union, holds}
 use Rattle.codes.specs.Codes.{cap_algs, cap_handles, cap_commands, cap_pp_commands, cap_audit_commands, cap_pcrs, cap_tpm_properties, cap_ecc_curves, cap_auth_policies, cap_act}
 use Rattle.codes.proofs.Once.{tpm_cap_once}
 use Rattle.attest.proofs.Once.{tpml_pcr_selection_once}
@@ -15,10 +15,7 @@ use Rattle.capabilities.specs.declared.list.TpmlEccCurve.{TpmlEccCurve}
 use Rattle.capabilities.specs.declared.list.TpmlTaggedPolicy.{TpmlTaggedPolicy}
 use Rattle.capabilities.specs.declared.list.TpmlActData.{TpmlActData}
 use Rattle.capabilities.specs.declared.tpmu.TpmuCapabilities.{TpmuCapabilities}
-use Rattle.capabilities.specs.declared.tpmu.TpmuCapabilitiesRead.{TpmuCapabilitiesRead}
-use Rattle.capabilities.specs.declared.tpms.TpmsCapabilityDataRead.{TpmsCapabilityDataRead}
 use Rattle.capabilities.specs.Parts.{tpmu_capabilities_parts, tpms_capability_data_parts}
-use Rattle.capabilities.specs.Answers.{tpmu_capabilities_answer, tpms_capability_data_answer}
 
 -- ---- the lists
 
@@ -79,11 +76,3 @@ tpmu_capabilities_once =
 
 pub tpms_capability_data_once : Once tpms_capability_data_parts
 tpms_capability_data_once = fields (λ s. (s.capability, s.«data»)) (λ (a, b). record { capability = a; «data» = b }) (λ s. refl) (both tpm_cap_once tpmu_capabilities_once)
-
--- ---- answers
-
-pub tpmu_capabilities_answer_once : Injective tpmu_capabilities_answer
-tpmu_capabilities_answer_once = answers tpmu_capabilities_once TpmuCapabilitiesRead.Found TpmuCapabilitiesRead.No tpmu_capabilities_answer (λ back. elim [ TpmuCapabilitiesRead.Found x e ↦ back x e | TpmuCapabilitiesRead.No f ↦ refl ])
-
-pub tpms_capability_data_answer_once : Injective tpms_capability_data_answer
-tpms_capability_data_answer_once = answers tpms_capability_data_once TpmsCapabilityDataRead.Found TpmsCapabilityDataRead.No tpms_capability_data_answer (λ back. elim [ TpmsCapabilityDataRead.Found x e ↦ back x e | TpmsCapabilityDataRead.No f ↦ refl ])

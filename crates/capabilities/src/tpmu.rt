@@ -1,28 +1,26 @@
 // The union of capabilities: a list for each, by the capability's code. It has the calls that a union has (ciphers, tpmu.rt), and what its arm is by rows:
 // the code, the list and the span of each.
 ghost use Rattle.std.specs.Prelude.{◌≡◌};
+ghost use Rattle.wire.specs.Answers.{answer};
 ghost use Rattle.wire.specs.Reading.{read};
 ghost use Rattle.wire.specs.Unions.{is_arm, held};
 ghost use Rattle.format.specs.Kinds.{tpmu_capabilities_arm, tpmu_capabilities};
 ghost use Rattle.steps.specs.Walks.{here, Walks};
 ghost use Rattle.capabilities.specs.Parts.{arm_for, code_of, list_of, items_of, tpmu_capabilities_parts, tpmu_capabilities_lists};
-ghost use Rattle.capabilities.specs.Answers.{tpmu_capabilities_answer};
 
 use crate::list::{
     TpmlActData, TpmlAlgProperty, TpmlCc, TpmlCca, TpmlEccCurve, TpmlHandle, TpmlTaggedPolicy,
     TpmlTaggedTpmProperty,
 };
 use attest::list::TpmlPcrSelection;
-use codes::{TpmCap, registry};
+use codes::TpmCap;
 use faults::Refusal;
 use format::arms::capabilities_arm;
 use format::list::ListOf;
-use lists::list::{list, list_end};
+use lists::list::{list, read_list};
 use steps::walk::Walk;
-use wire::choice::Choice;
-use wire::measure::Measure;
+use wire::read::Read;
 use wire::span::Span;
-use wire::widen::wider;
 
 #[derive(Clone, Copy)]
 pub enum TpmuCapabilities {
@@ -38,47 +36,40 @@ pub enum TpmuCapabilities {
     Act(TpmlActData),
 }
 
-#[derive(Clone, Copy)]
-pub enum TpmuCapabilitiesRead {
-    Found(TpmuCapabilities, usize),
-    No(Refusal),
-}
-
 impl TpmuCapabilities {
     // The arm of a capability, with that list. One without an arm is not asked for; the last arm stands for it.
     fn of(tag: TpmCap, items: Span) -> Self
         ensures { result ≡ arm_for tag.0 items }
     {
-        let v = tag.0;
-        match v {
-            registry::CAP_ALGS => Self::Algs(TpmlAlgProperty { items }),
-            registry::CAP_HANDLES => Self::Handles(TpmlHandle { items }),
-            registry::CAP_COMMANDS => Self::Commands(TpmlCca { items }),
-            registry::CAP_PP_COMMANDS => Self::PpCommands(TpmlCc { items }),
-            registry::CAP_AUDIT_COMMANDS => Self::AuditCommands(TpmlCc { items }),
-            registry::CAP_PCRS => Self::Pcrs(TpmlPcrSelection { items }),
-            registry::CAP_TPM_PROPERTIES => Self::TpmProperties(TpmlTaggedTpmProperty { items }),
-            registry::CAP_ECC_CURVES => Self::EccCurves(TpmlEccCurve { items }),
-            registry::CAP_AUTH_POLICIES => Self::AuthPolicies(TpmlTaggedPolicy { items }),
+        match tag {
+            TpmCap::Algs => Self::Algs(TpmlAlgProperty { items }),
+            TpmCap::Handles => Self::Handles(TpmlHandle { items }),
+            TpmCap::Commands => Self::Commands(TpmlCca { items }),
+            TpmCap::PpCommands => Self::PpCommands(TpmlCc { items }),
+            TpmCap::AuditCommands => Self::AuditCommands(TpmlCc { items }),
+            TpmCap::Pcrs => Self::Pcrs(TpmlPcrSelection { items }),
+            TpmCap::TpmProperties => Self::TpmProperties(TpmlTaggedTpmProperty { items }),
+            TpmCap::EccCurves => Self::EccCurves(TpmlEccCurve { items }),
+            TpmCap::AuthPolicies => Self::AuthPolicies(TpmlTaggedPolicy { items }),
             _ => Self::Act(TpmlActData { items }),
         }
     }
 
     // The code of the capability that chooses the arm.
-    fn code(self) -> u32
-        ensures { result ≡ code_of self }
+    fn code(self) -> TpmCap
+        ensures { result.0 ≡ code_of self }
     {
         match self {
-            Self::Algs(_) => registry::CAP_ALGS,
-            Self::Handles(_) => registry::CAP_HANDLES,
-            Self::Commands(_) => registry::CAP_COMMANDS,
-            Self::PpCommands(_) => registry::CAP_PP_COMMANDS,
-            Self::AuditCommands(_) => registry::CAP_AUDIT_COMMANDS,
-            Self::Pcrs(_) => registry::CAP_PCRS,
-            Self::TpmProperties(_) => registry::CAP_TPM_PROPERTIES,
-            Self::EccCurves(_) => registry::CAP_ECC_CURVES,
-            Self::AuthPolicies(_) => registry::CAP_AUTH_POLICIES,
-            Self::Act(_) => registry::CAP_ACT,
+            Self::Algs(_) => TpmCap::Algs,
+            Self::Handles(_) => TpmCap::Handles,
+            Self::Commands(_) => TpmCap::Commands,
+            Self::PpCommands(_) => TpmCap::PpCommands,
+            Self::AuditCommands(_) => TpmCap::AuditCommands,
+            Self::Pcrs(_) => TpmCap::Pcrs,
+            Self::TpmProperties(_) => TpmCap::TpmProperties,
+            Self::EccCurves(_) => TpmCap::EccCurves,
+            Self::AuthPolicies(_) => TpmCap::AuthPolicies,
+            Self::Act(_) => TpmCap::Act,
         }
     }
 
@@ -118,35 +109,29 @@ impl TpmuCapabilities {
         }
     }
 
-    pub fn unmarshal_tagged(tag: TpmCap, s: &[u8], at: usize) -> TpmuCapabilitiesRead
-        ensures { tpmu_capabilities_answer result ≡ read (tpmu_capabilities tag.0) s.now at }
+    pub fn unmarshal_tagged(tag: TpmCap, s: &[u8], at: usize) -> Read<TpmuCapabilities>
+        ensures { answer tpmu_capabilities_parts result ≡ read (tpmu_capabilities tag.0) s.now at }
     {
         match capabilities_arm(tag) {
-            Choice::The(_) => {
+            Some(_) => {
                 let arm = Self::of(tag, Span::new(at, 0));
-                match list_end(arm.list_of(), s, at) {
-                    Measure::Size(e) => {
-                        let len = e - at;
-                        let items = Span::new(at, len);
-                        TpmuCapabilitiesRead::Found(Self::of(tag, items), e)
-                    }
-                    Measure::No(f) => TpmuCapabilitiesRead::No(f),
-                }
+                let (items, end) = read_list(arm.list_of(), s, at)?;
+                Ok((Self::of(tag, items), end))
             }
-            Choice::Nothing => TpmuCapabilitiesRead::No(Refusal::no_arm(at, wider(tag.0))),
+            None => Err(Refusal::no_arm(at, u64::from(tag.0))),
         }
     }
 
     pub fn matches_tag(self, tag: TpmCap) -> bool
         ensures { result ≡ is_arm (tpmu_capabilities_arm tag.0) (held (tpmu_capabilities_parts self)) }
     {
-        self.code() == tag.0
+        self.code().0 == tag.0
     }
 
     pub fn walk_tagged(self, tag: TpmCap, w: Walk, src: &[u8], out: &mut [u8]) -> Walk
         ensures { Walks 2 (tpmu_capabilities tag.0) (tpmu_capabilities_parts self) (tpmu_capabilities_lists self) src.now (here w out.old) (here result out.new) }
     {
-        let v = w.due_by_capability(tag, capabilities_arm(tag), self.matches_tag(tag));
+        let v = w.due(tag, capabilities_arm(tag), self.matches_tag(tag));
         list(v, self.list_of(), self.items(), src, out)
     }
 }

@@ -7,13 +7,12 @@ use mathlib.Core.List.{List, [], ◌∷◌}
 use lib.Dec.{eqb}
 use borrow.Author.Tests.{eq-eqb, ne_eqb, eqb-true, eqb-false}
 use Rattle.wire.specs.declared.span.Span.{Span}
-use Rattle.wire.specs.declared.read.SpanRead.{SpanRead}
-use Rattle.wire.specs.Answers.{len_of, span_part, span_answer}
+use Rattle.wire.specs.Answers.{len_of, span_part}
 use Rattle.wire.specs.Layout.{plain, stop}
 use Rattle.wire.specs.Records.{span, tag, Ans, Parsed, parsed}
 use Rattle.wire.specs.Reading.{also, piece, read}
 use Rattle.wire.proofs.Steps.{next_found, parsed_same}
-use Rattle.wire.proofs.Search.{known, Shows, shown, by_whole, chosen, rests}
+use Rattle.wire.proofs.Search.{Shows, shown, by_whole, chosen, rests}
 use Rattle.format.specs.Kinds.{digest_of, tpmu_ha_arm, tpmu_ha_body, tpmu_ha}
 use Rattle.codes.specs.declared.DigestLen.{DigestLen}
 use Rattle.codes.specs.Codes.{null}
@@ -38,13 +37,13 @@ plain_length n src at p =
     cc
 
 -- so a digest that was read is the arm of its length
-pub digest_found : {a : DigestLen} {b : SpanRead} {n e : ℕ} {s : Span} (v : ℕ) (src : List ℕ) (at : ℕ)
-    → a ≡ DigestLen.Bytes n → digest_choice a ≡ tpmu_ha_arm v → b ≡ SpanRead.Found s e → span_answer b ≡ read (plain n stop) src at
+pub digest_found : {a : DigestLen} {n e : ℕ} {s : Span} (v : ℕ) (src : List ℕ) (at : ℕ)
+    → a ≡ DigestLen.Bytes n → digest_choice a ≡ tpmu_ha_arm v → parsed (span_part s ∷ []) e ≡ read (plain n stop) src at
     → parsed (tag (digest_of (len_of s)) ∷ span_part s ∷ []) e ≡ read (tpmu_ha v) src at
 unfolding tpmu_ha
-digest_found {n = n} {e} {s} v src at q p k h =
-    ap (λ l. parsed (tag (digest_of l) ∷ span_part s ∷ []) e) (sym (plain_length n src at (known span_answer k h refl)))
-    ∙ shown (search (digest_held, by_whole span_answer, rests))
+digest_found {n = n} {e} {s} v src at q p h =
+    ap (λ l. parsed (tag (digest_of l) ∷ span_part s ∷ []) e) (sym (plain_length n src at h))
+    ∙ shown (search (digest_held, by_whole, h, rests))
 
 -- two lengths are equal when their digests' arms are; and no digest's arm is the empty one
 pub digest_due : {r l : ℕ} (n : ℕ) → r ≡ l → eqb r n ≡ eqb (digest_of l) (digest_of n)

@@ -1,9 +1,9 @@
--- The parts of each type determine it, and no two answers of this crate mean the same. Assumes nothing.
+-- The parts of each type determine it. Assumes nothing.
 use mathlib.Core.Path.{refl}
 use mathlib.Core.Bool.{cond}
 use mathlib.Core.List.{[], ◌∷◌}
 use lib.Dec.{eqb}
-use Rattle.wire.proofs.Once.{Injective, Once, number_once, span_once, both, fields, holds, bare, tagged, union, answers}
+use Rattle.wire.proofs.Once.{Once, number_once, span_once, both, fields, holds, bare, tagged, union}
 use Rattle.codes.specs.Codes.{aes, xor, null, sm4, camellia}
 use Rattle.wire.specs.Answers.{len_of}
 use Rattle.codes.proofs.Digests.{digest_not_empty}
@@ -11,13 +11,7 @@ use Rattle.codes.proofs.Once.{tpm_alg_id_once}
 use Rattle.ciphers.specs.declared.tpmu.TpmuHa.{TpmuHa}
 use Rattle.ciphers.specs.declared.tpmu.TpmuSymKeyBits.{TpmuSymKeyBits}
 use Rattle.ciphers.specs.declared.tpmu.TpmuSymMode.{TpmuSymMode}
-use Rattle.ciphers.specs.declared.tpmu.TpmuHaRead.{TpmuHaRead}
-use Rattle.ciphers.specs.declared.tpmu.TpmuSymKeyBitsRead.{TpmuSymKeyBitsRead}
-use Rattle.ciphers.specs.declared.tpmu.TpmuSymModeRead.{TpmuSymModeRead}
-use Rattle.ciphers.specs.declared.tpmt.TpmtHaRead.{TpmtHaRead}
-use Rattle.ciphers.specs.declared.tpmt.TpmtSymDefRead.{TpmtSymDefRead}
 use Rattle.ciphers.specs.Parts.{tpmu_ha_parts, tpmu_sym_key_bits_parts, tpmu_sym_mode_parts, tpmt_ha_parts, tpmt_sym_def_parts}
-use Rattle.ciphers.specs.Answers.{tpmu_ha_answer, tpmu_sym_key_bits_answer, tpmu_sym_mode_answer, tpmt_ha_answer, tpmt_sym_def_answer}
 
 -- ---- unions
 
@@ -67,20 +61,3 @@ tpmt_ha_once = fields (λ s. (s.hash_alg, s.digest)) (λ (a, b). record { hash_a
 
 pub tpmt_sym_def_once : Once tpmt_sym_def_parts
 tpmt_sym_def_once = fields (λ s. (s.algorithm, (s.key_bits, s.mode))) (λ (a, (k, m)). record { algorithm = a; key_bits = k; mode = m }) (λ s. refl) (both tpm_alg_id_once (both tpmu_sym_key_bits_once tpmu_sym_mode_once))
-
--- ---- answers
-
-pub tpmu_ha_answer_once : Injective tpmu_ha_answer
-tpmu_ha_answer_once = answers tpmu_ha_once TpmuHaRead.Found TpmuHaRead.No tpmu_ha_answer (λ back. elim [ TpmuHaRead.Found x e ↦ back x e | TpmuHaRead.No f ↦ refl ])
-
-pub tpmu_sym_key_bits_answer_once : Injective tpmu_sym_key_bits_answer
-tpmu_sym_key_bits_answer_once = answers tpmu_sym_key_bits_once TpmuSymKeyBitsRead.Found TpmuSymKeyBitsRead.No tpmu_sym_key_bits_answer (λ back. elim [ TpmuSymKeyBitsRead.Found x e ↦ back x e | TpmuSymKeyBitsRead.No f ↦ refl ])
-
-pub tpmu_sym_mode_answer_once : Injective tpmu_sym_mode_answer
-tpmu_sym_mode_answer_once = answers tpmu_sym_mode_once TpmuSymModeRead.Found TpmuSymModeRead.No tpmu_sym_mode_answer (λ back. elim [ TpmuSymModeRead.Found x e ↦ back x e | TpmuSymModeRead.No f ↦ refl ])
-
-pub tpmt_ha_answer_once : Injective tpmt_ha_answer
-tpmt_ha_answer_once = answers tpmt_ha_once TpmtHaRead.Found TpmtHaRead.No tpmt_ha_answer (λ back. elim [ TpmtHaRead.Found x e ↦ back x e | TpmtHaRead.No f ↦ refl ])
-
-pub tpmt_sym_def_answer_once : Injective tpmt_sym_def_answer
-tpmt_sym_def_answer_once = answers tpmt_sym_def_once TpmtSymDefRead.Found TpmtSymDefRead.No tpmt_sym_def_answer (λ back. elim [ TpmtSymDefRead.Found x e ↦ back x e | TpmtSymDefRead.No f ↦ refl ])

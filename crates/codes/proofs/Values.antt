@@ -5,11 +5,8 @@ use mathlib.Core.Path.{◌≡◌, refl, sym}
 use mathlib.Core.Bool.{Bool, true, false, ◌||◌}
 use lib.Dec.{eqb}
 use borrow.Author.Tests.{eq-eqb, ne_eqb, eqb-false}
-use Rattle.faults.specs.declared.Refusal.{Refusal}
 use Rattle.faults.specs.Faults.{bad_value}
 use Rattle.wire.specs.Layout.{breach}
-use Rattle.wire.specs.Records.{refused}
-use Rattle.wire.proofs.Search.{Shows, same}
 use Rattle.codes.specs.declared.Ticket.{Ticket}
 use Rattle.codes.specs.Codes.{is_yes_no, is_magic, ticket_tag}
 
@@ -32,7 +29,3 @@ magic_not n h = sym (ne_eqb n 0xFF544347 h)
 -- another tag is a bad value, whichever the ticket is, and no unknown code
 pub tag_is_a_value : (t : Ticket) (at n : ℕ) → breach (ticket_tag t) at n ≡ bad_value at n
 tag_is_a_value t at n = refl
-
--- and its refusal says the number that was read
-pub of_tag : {f : Refusal} {at w n : ℕ} → f ≡ bad_value at w → w ≡ n → Shows (refused f) (refused (bad_value at n))
-of_tag p q = rw (p, q) same

@@ -1,6 +1,5 @@
 -- How long the digest of each algorithm is, as the table of the union TPMU_HA. Assumes nothing.
-use Rattle.std.specs.Prelude.{ℕ, ◌+◌, ◌-◌, List, [], ◌∷◌}
-use Rattle.wire.specs.declared.choice.Choice.{Choice}
+use Rattle.std.specs.Prelude.{Option, ℕ, ◌+◌, ◌-◌, List, [], ◌∷◌}
 use Rattle.wire.specs.Layout.{stop, plain}
 use Rattle.wire.specs.Unions.{Row, row, own, arm_of}
 use Rattle.codes.specs.Codes.{sha1, sha256, sha384, sha512, null, sm3_256, sha3_256, sha3_384, sha3_512, shake256_192, shake256_256, shake256_512}
@@ -35,5 +34,5 @@ tpmu_ha_table =
     ∷ []
 
 -- the arm of an algorithm's digest
-unfoldable pub tpmu_ha_arm : ℕ → Choice
+unfoldable pub tpmu_ha_arm : ℕ → Option ℕ
 tpmu_ha_arm v = arm_of tpmu_ha_table v

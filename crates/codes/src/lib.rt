@@ -2,7 +2,7 @@
 // sort of code is a type, so that none is taken for another; a tag has the type of the attestation types, as in Part 2.
 #![tactic(auto)]
 
-pub mod registry;
+pub mod code;
 pub mod uint;
 
 ghost use Rattle.std.specs.Prelude.{◌≡◌};
@@ -10,32 +10,37 @@ ghost use Rattle.wire.specs.Layout.{one};
 ghost use Rattle.wire.specs.Reading.{read};
 ghost use Rattle.codes.specs.Codes.{attestations, caps, handle_types, hierarchies, named_algorithms, is_algorithm, is_curve, is_attestation, is_cap, is_handle_type, is_hierarchy, member, within, alg, curve, attestation, cap, handle_type, hierarchy, ticket_tags, ticket_tag};
 ghost use Rattle.codes.specs.Digests.{tpmu_ha_arm};
-ghost use Rattle.codes.specs.Answers.{tpm_alg_id_answer, tpm_ecc_curve_answer, tpm_st_answer, tpm_cap_answer, tpm_ht_answer, tpm_rh_answer, digest_choice};
+ghost use Rattle.wire.specs.declared.width.Width.TheVariants.{One, Two, Four};
+ghost use Rattle.wire.specs.Answers.{answer};
+ghost use Rattle.codes.specs.Answers.{tpm_alg_id_parts, tpm_ecc_curve_parts, tpm_st_parts, tpm_cap_parts, tpm_ht_parts, tpm_rh_parts, digest_choice};
 
-use crate::uint::{Uint8Read, Uint16Read, Uint32Read, uint8, uint16, uint32};
+use crate::code::{Code, read_code};
 use faults::Refusal;
-use wire::widen::{wide, wide_byte, wider};
+use wire::number::Number;
+use wire::read::Read;
+use wire::unmarshal::TpmUnmarshal;
+use wire::width::Width;
 
-#[derive(Clone, Copy)]
+#[derive(Clone, Copy, Debug, PartialEq, Eq)]
 pub struct TpmAlgId(pub u16);
 
-#[derive(Clone, Copy)]
+#[derive(Clone, Copy, Debug, PartialEq, Eq)]
 pub struct TpmEccCurve(pub u16);
 
-#[derive(Clone, Copy)]
+#[derive(Clone, Copy, Debug, PartialEq, Eq)]
 pub struct TpmSt(pub u16);
 
-#[derive(Clone, Copy)]
+#[derive(Clone, Copy, Debug, PartialEq, Eq)]
 pub struct TpmCap(pub u32);
 
-#[derive(Clone, Copy)]
+#[derive(Clone, Copy, Debug, PartialEq, Eq)]
 pub struct TpmHt(pub u8);
 
-#[derive(Clone, Copy)]
+#[derive(Clone, Copy, Debug, PartialEq, Eq)]
 pub struct TpmRh(pub u32);
 
 // The tickets, by what their tags say.
-#[derive(Clone, Copy)]
+#[derive(Clone, Copy, Debug, PartialEq, Eq)]
 pub enum Ticket {
     Creation,
     Verified,
@@ -43,44 +48,8 @@ pub enum Ticket {
     Auth,
 }
 
-#[derive(Clone, Copy)]
-pub enum TpmAlgIdRead {
-    Found(TpmAlgId, usize),
-    No(Refusal),
-}
-
-#[derive(Clone, Copy)]
-pub enum TpmEccCurveRead {
-    Found(TpmEccCurve, usize),
-    No(Refusal),
-}
-
-#[derive(Clone, Copy)]
-pub enum TpmStRead {
-    Found(TpmSt, usize),
-    No(Refusal),
-}
-
-#[derive(Clone, Copy)]
-pub enum TpmCapRead {
-    Found(TpmCap, usize),
-    No(Refusal),
-}
-
-#[derive(Clone, Copy)]
-pub enum TpmHtRead {
-    Found(TpmHt, usize),
-    No(Refusal),
-}
-
-#[derive(Clone, Copy)]
-pub enum TpmRhRead {
-    Found(TpmRh, usize),
-    No(Refusal),
-}
-
 // How long an algorithm's digest is. Null's is empty; an algorithm that is no hash has none.
-#[derive(Clone, Copy)]
+#[derive(Clone, Copy, Debug, PartialEq, Eq)]
 pub enum DigestLen {
     Bytes(u16),
     Empty,
@@ -99,75 +68,75 @@ const LISTED_LOW: u64 = 0x80007FEF3FFD3DFA;
 const LISTED_HIGH: u64 = 0x1F;
 
 impl TpmAlgId {
-    pub const Rsa: TpmAlgId = TpmAlgId(registry::RSA);
+    pub const Rsa: TpmAlgId = TpmAlgId(0x0001);
 
-    pub const Sha1: TpmAlgId = TpmAlgId(registry::SHA1);
+    pub const Sha1: TpmAlgId = TpmAlgId(0x0004);
 
-    pub const Hmac: TpmAlgId = TpmAlgId(registry::HMAC);
+    pub const Hmac: TpmAlgId = TpmAlgId(0x0005);
 
-    pub const Aes: TpmAlgId = TpmAlgId(registry::AES);
+    pub const Aes: TpmAlgId = TpmAlgId(0x0006);
 
-    pub const Mgf1: TpmAlgId = TpmAlgId(registry::MGF1);
+    pub const Mgf1: TpmAlgId = TpmAlgId(0x0007);
 
-    pub const KeyedHash: TpmAlgId = TpmAlgId(registry::KEYED_HASH);
+    pub const KeyedHash: TpmAlgId = TpmAlgId(0x0008);
 
-    pub const Xor: TpmAlgId = TpmAlgId(registry::XOR);
+    pub const Xor: TpmAlgId = TpmAlgId(0x000A);
 
-    pub const Sha256: TpmAlgId = TpmAlgId(registry::SHA256);
+    pub const Sha256: TpmAlgId = TpmAlgId(0x000B);
 
-    pub const Sha384: TpmAlgId = TpmAlgId(registry::SHA384);
+    pub const Sha384: TpmAlgId = TpmAlgId(0x000C);
 
-    pub const Sha512: TpmAlgId = TpmAlgId(registry::SHA512);
+    pub const Sha512: TpmAlgId = TpmAlgId(0x000D);
 
-    pub const Null: TpmAlgId = TpmAlgId(registry::NULL);
+    pub const Null: TpmAlgId = TpmAlgId(0x0010);
 
-    pub const Sm3_256: TpmAlgId = TpmAlgId(registry::SM3_256);
+    pub const Sm3_256: TpmAlgId = TpmAlgId(0x0012);
 
-    pub const Sm4: TpmAlgId = TpmAlgId(registry::SM4);
+    pub const Sm4: TpmAlgId = TpmAlgId(0x0013);
 
-    pub const Rsassa: TpmAlgId = TpmAlgId(registry::RSASSA);
+    pub const Rsassa: TpmAlgId = TpmAlgId(0x0014);
 
-    pub const Rsaes: TpmAlgId = TpmAlgId(registry::RSAES);
+    pub const Rsaes: TpmAlgId = TpmAlgId(0x0015);
 
-    pub const Rsapss: TpmAlgId = TpmAlgId(registry::RSAPSS);
+    pub const Rsapss: TpmAlgId = TpmAlgId(0x0016);
 
-    pub const Oaep: TpmAlgId = TpmAlgId(registry::OAEP);
+    pub const Oaep: TpmAlgId = TpmAlgId(0x0017);
 
-    pub const Ecdsa: TpmAlgId = TpmAlgId(registry::ECDSA);
+    pub const Ecdsa: TpmAlgId = TpmAlgId(0x0018);
 
-    pub const Ecdh: TpmAlgId = TpmAlgId(registry::ECDH);
+    pub const Ecdh: TpmAlgId = TpmAlgId(0x0019);
 
-    pub const Ecdaa: TpmAlgId = TpmAlgId(registry::ECDAA);
+    pub const Ecdaa: TpmAlgId = TpmAlgId(0x001A);
 
-    pub const Sm2: TpmAlgId = TpmAlgId(registry::SM2);
+    pub const Sm2: TpmAlgId = TpmAlgId(0x001B);
 
-    pub const Ecschnorr: TpmAlgId = TpmAlgId(registry::ECSCHNORR);
+    pub const Ecschnorr: TpmAlgId = TpmAlgId(0x001C);
 
-    pub const Ecmqv: TpmAlgId = TpmAlgId(registry::ECMQV);
+    pub const Ecmqv: TpmAlgId = TpmAlgId(0x001D);
 
-    pub const Kdf1Sp800_56A: TpmAlgId = TpmAlgId(registry::KDF1_SP800_56A);
+    pub const Kdf1Sp800_56A: TpmAlgId = TpmAlgId(0x0020);
 
-    pub const Kdf2: TpmAlgId = TpmAlgId(registry::KDF2);
+    pub const Kdf2: TpmAlgId = TpmAlgId(0x0021);
 
-    pub const Kdf1Sp800_108: TpmAlgId = TpmAlgId(registry::KDF1_SP800_108);
+    pub const Kdf1Sp800_108: TpmAlgId = TpmAlgId(0x0022);
 
-    pub const Ecc: TpmAlgId = TpmAlgId(registry::ECC);
+    pub const Ecc: TpmAlgId = TpmAlgId(0x0023);
 
-    pub const SymCipher: TpmAlgId = TpmAlgId(registry::SYM_CIPHER);
+    pub const SymCipher: TpmAlgId = TpmAlgId(0x0025);
 
-    pub const Camellia: TpmAlgId = TpmAlgId(registry::CAMELLIA);
+    pub const Camellia: TpmAlgId = TpmAlgId(0x0026);
 
-    pub const Sha3_256: TpmAlgId = TpmAlgId(registry::SHA3_256);
+    pub const Sha3_256: TpmAlgId = TpmAlgId(0x0027);
 
-    pub const Sha3_384: TpmAlgId = TpmAlgId(registry::SHA3_384);
+    pub const Sha3_384: TpmAlgId = TpmAlgId(0x0028);
 
-    pub const Sha3_512: TpmAlgId = TpmAlgId(registry::SHA3_512);
+    pub const Sha3_512: TpmAlgId = TpmAlgId(0x0029);
 
-    pub const Shake256_192: TpmAlgId = TpmAlgId(registry::SHAKE256_192);
+    pub const Shake256_192: TpmAlgId = TpmAlgId(0x002C);
 
-    pub const Shake256_256: TpmAlgId = TpmAlgId(registry::SHAKE256_256);
+    pub const Shake256_256: TpmAlgId = TpmAlgId(0x002D);
 
-    pub const Shake256_512: TpmAlgId = TpmAlgId(registry::SHAKE256_512);
+    pub const Shake256_512: TpmAlgId = TpmAlgId(0x002E);
 
     // The codes of the algorithms that have a name here, rising.
     pub fn named() -> [u16; 35]
@@ -212,111 +181,51 @@ impl TpmAlgId {
         ]
     }
 
-    // Whether the code is one of the 44.
-    pub fn is_listed(self) -> bool
-        ensures { result ≡ is_algorithm self.0 }
-    {
-        let n = self.0;
-        match n {
-            0x00..=0x3F => (LISTED_LOW >> n) % 2 == 1,
-            0x40..=0x7F => (LISTED_HIGH >> (n - 0x40)) % 2 == 1,
-            _ => false,
-        }
-    }
-
-    // An algorithm's code, read.
-    pub fn unmarshal(s: &[u8], at: usize) -> TpmAlgIdRead
-        ensures { tpm_alg_id_answer result ≡ read (one 2 alg) s.now at }
-    {
-        match uint16(s, at) {
-            Uint16Read::Found(n, e) => {
-                let a = TpmAlgId(n);
-                if a.is_listed() {
-                    TpmAlgIdRead::Found(a, e)
-                } else {
-                    TpmAlgIdRead::No(Refusal::unknown_code(at, wide(n)))
-                }
-            }
-            Uint16Read::No(f) => TpmAlgIdRead::No(f),
-        }
-    }
-
     // The length of the algorithm's digest.
+    #[tactic(auto, unfolding(crate::specs::Digests::tpmu_ha_arm))]
     pub fn digest_len(self) -> DigestLen
         ensures { digest_choice result ≡ tpmu_ha_arm self.0 }
     {
-        let a = self.0;
-        match a {
-            registry::SHA1 => DigestLen::Bytes(20),
-            registry::SHAKE256_192 => DigestLen::Bytes(24),
-            registry::SHA256 | registry::SM3_256 | registry::SHA3_256 | registry::SHAKE256_256 => {
+        match self {
+            TpmAlgId::Sha1 => DigestLen::Bytes(20),
+            TpmAlgId::Shake256_192 => DigestLen::Bytes(24),
+            TpmAlgId::Sha256 | TpmAlgId::Sm3_256 | TpmAlgId::Sha3_256 | TpmAlgId::Shake256_256 => {
                 DigestLen::Bytes(32)
             }
-            registry::SHA384 | registry::SHA3_384 => DigestLen::Bytes(48),
-            registry::SHA512 | registry::SHA3_512 | registry::SHAKE256_512 => DigestLen::Bytes(64),
-            registry::NULL => DigestLen::Empty,
+            TpmAlgId::Sha384 | TpmAlgId::Sha3_384 => DigestLen::Bytes(48),
+            TpmAlgId::Sha512 | TpmAlgId::Sha3_512 | TpmAlgId::Shake256_512 => DigestLen::Bytes(64),
+            TpmAlgId::Null => DigestLen::Empty,
             _ => DigestLen::Nothing,
         }
     }
 }
 
-impl TpmEccCurve {
-    // Whether the code is one of the 14.
-    pub fn is_listed(self) -> bool
-        ensures { result ≡ is_curve self.0 }
-    {
-        let n = self.0;
-        within(0x00, 0x05, n)
-            | within(0x10, 0x11, n)
-            | within(0x20, 0x20, n)
-            | within(0x30, 0x32, n)
-            | within(0x40, 0x41, n)
-    }
-
-    // A curve's code, read.
-    pub fn unmarshal(s: &[u8], at: usize) -> TpmEccCurveRead
-        ensures { tpm_ecc_curve_answer result ≡ read (one 2 curve) s.now at }
-    {
-        match uint16(s, at) {
-            Uint16Read::Found(n, e) => {
-                let c = TpmEccCurve(n);
-                if c.is_listed() {
-                    TpmEccCurveRead::Found(c, e)
-                } else {
-                    TpmEccCurveRead::No(Refusal::unknown_code(at, wide(n)))
-                }
-            }
-            Uint16Read::No(f) => TpmEccCurveRead::No(f),
-        }
-    }
-}
-
 impl TpmSt {
-    pub const AttestNv: TpmSt = TpmSt(registry::ATTEST_NV);
+    pub const AttestNv: TpmSt = TpmSt(0x8014);
 
-    pub const AttestCommandAudit: TpmSt = TpmSt(registry::ATTEST_COMMAND_AUDIT);
+    pub const AttestCommandAudit: TpmSt = TpmSt(0x8015);
 
-    pub const AttestSessionAudit: TpmSt = TpmSt(registry::ATTEST_SESSION_AUDIT);
+    pub const AttestSessionAudit: TpmSt = TpmSt(0x8016);
 
-    pub const AttestCertify: TpmSt = TpmSt(registry::ATTEST_CERTIFY);
+    pub const AttestCertify: TpmSt = TpmSt(0x8017);
 
-    pub const AttestQuote: TpmSt = TpmSt(registry::ATTEST_QUOTE);
+    pub const AttestQuote: TpmSt = TpmSt(0x8018);
 
-    pub const AttestTime: TpmSt = TpmSt(registry::ATTEST_TIME);
+    pub const AttestTime: TpmSt = TpmSt(0x8019);
 
-    pub const AttestCreation: TpmSt = TpmSt(registry::ATTEST_CREATION);
+    pub const AttestCreation: TpmSt = TpmSt(0x801A);
 
-    pub const AttestNvDigest: TpmSt = TpmSt(registry::ATTEST_NV_DIGEST);
+    pub const AttestNvDigest: TpmSt = TpmSt(0x801C);
 
-    pub const Creation: TpmSt = TpmSt(registry::ST_CREATION);
+    pub const Creation: TpmSt = TpmSt(0x8021);
 
-    pub const Verified: TpmSt = TpmSt(registry::ST_VERIFIED);
+    pub const Verified: TpmSt = TpmSt(0x8022);
 
-    pub const AuthSecret: TpmSt = TpmSt(registry::ST_AUTH_SECRET);
+    pub const AuthSecret: TpmSt = TpmSt(0x8023);
 
-    pub const Hashcheck: TpmSt = TpmSt(registry::ST_HASHCHECK);
+    pub const Hashcheck: TpmSt = TpmSt(0x8024);
 
-    pub const AuthSigned: TpmSt = TpmSt(registry::ST_AUTH_SIGNED);
+    pub const AuthSigned: TpmSt = TpmSt(0x8025);
 
     // The codes of the attestation types, rising; a ticket's tag is no code.
     pub fn named() -> [u16; 8]
@@ -334,84 +243,54 @@ impl TpmSt {
         ]
     }
 
-    // Whether the code is one of the 8 attestation types.
-    pub fn is_listed(self) -> bool
-        ensures { result ≡ is_attestation self.0 }
-    {
-        let n = self.0;
-        within(0x8014, 0x801A, n) | within(0x801C, 0x801C, n)
-    }
-
-    // An attestation type's code, read.
-    pub fn unmarshal(s: &[u8], at: usize) -> TpmStRead
-        ensures { tpm_st_answer result ≡ read (one 2 attestation) s.now at }
-    {
-        match uint16(s, at) {
-            Uint16Read::Found(n, e) => {
-                let t = TpmSt(n);
-                if t.is_listed() {
-                    TpmStRead::Found(t, e)
-                } else {
-                    TpmStRead::No(Refusal::unknown_code(at, wide(n)))
-                }
-            }
-            Uint16Read::No(f) => TpmStRead::No(f),
-        }
-    }
-
     // Whether it is a tag of that ticket.
+    #[tactic(auto, unfolding(crate::specs::Codes::ticket_tags))]
     pub fn is_tag_of(self, ticket: Ticket) -> bool
         ensures { result ≡ member (ticket_tags ticket) self.0 }
     {
-        let t = self.0;
         match ticket {
-            Ticket::Creation => t == registry::ST_CREATION,
-            Ticket::Verified => t == registry::ST_VERIFIED,
-            Ticket::Hashcheck => t == registry::ST_HASHCHECK,
-            Ticket::Auth => (t == registry::ST_AUTH_SECRET) | (t == registry::ST_AUTH_SIGNED),
+            Ticket::Creation => matches!(self, TpmSt::Creation),
+            Ticket::Verified => matches!(self, TpmSt::Verified),
+            Ticket::Hashcheck => matches!(self, TpmSt::Hashcheck),
+            Ticket::Auth => matches!(self, TpmSt::AuthSecret | TpmSt::AuthSigned),
         }
     }
 
     // The tag of a ticket, read: a fixed value, so that another is no unknown code but a bad value.
-    pub fn unmarshal_tag(ticket: Ticket, s: &[u8], at: usize) -> TpmStRead
-        ensures { tpm_st_answer result ≡ read (one 2 (ticket_tag ticket)) s.now at }
+    pub fn unmarshal_tag(ticket: Ticket, s: &[u8], at: usize) -> Read<Self>
+        ensures { answer tpm_st_parts result ≡ read (one 2 (ticket_tag ticket)) s.now at }
     {
-        match uint16(s, at) {
-            Uint16Read::Found(n, e) => {
-                let t = TpmSt(n);
-                if t.is_tag_of(ticket) {
-                    TpmStRead::Found(t, e)
-                } else {
-                    TpmStRead::No(Refusal::bad_value(at, wide(n)))
-                }
-            }
-            Uint16Read::No(f) => TpmStRead::No(f),
+        let (t, end) = TpmSt::any(s, at)?;
+        if t.is_tag_of(ticket) {
+            Ok((t, end))
+        } else {
+            Err(Refusal::bad_value(at, t.number()))
         }
     }
 }
 
 impl TpmCap {
-    pub const Algs: TpmCap = TpmCap(registry::CAP_ALGS);
+    pub const Algs: TpmCap = TpmCap(0x00000000);
 
-    pub const Handles: TpmCap = TpmCap(registry::CAP_HANDLES);
+    pub const Handles: TpmCap = TpmCap(0x00000001);
 
-    pub const Commands: TpmCap = TpmCap(registry::CAP_COMMANDS);
+    pub const Commands: TpmCap = TpmCap(0x00000002);
 
-    pub const PpCommands: TpmCap = TpmCap(registry::CAP_PP_COMMANDS);
+    pub const PpCommands: TpmCap = TpmCap(0x00000003);
 
-    pub const AuditCommands: TpmCap = TpmCap(registry::CAP_AUDIT_COMMANDS);
+    pub const AuditCommands: TpmCap = TpmCap(0x00000004);
 
-    pub const Pcrs: TpmCap = TpmCap(registry::CAP_PCRS);
+    pub const Pcrs: TpmCap = TpmCap(0x00000005);
 
-    pub const TpmProperties: TpmCap = TpmCap(registry::CAP_TPM_PROPERTIES);
+    pub const TpmProperties: TpmCap = TpmCap(0x00000006);
 
-    pub const PcrProperties: TpmCap = TpmCap(registry::CAP_PCR_PROPERTIES);
+    pub const PcrProperties: TpmCap = TpmCap(0x00000007);
 
-    pub const EccCurves: TpmCap = TpmCap(registry::CAP_ECC_CURVES);
+    pub const EccCurves: TpmCap = TpmCap(0x00000008);
 
-    pub const AuthPolicies: TpmCap = TpmCap(registry::CAP_AUTH_POLICIES);
+    pub const AuthPolicies: TpmCap = TpmCap(0x00000009);
 
-    pub const Act: TpmCap = TpmCap(registry::CAP_ACT);
+    pub const Act: TpmCap = TpmCap(0x0000000A);
 
     // Their codes, rising.
     pub fn named() -> [u32; 11]
@@ -431,38 +310,14 @@ impl TpmCap {
             TpmCap::Act.0,
         ]
     }
-
-    // Whether the code is one of the 11 capabilities.
-    pub fn is_listed(self) -> bool
-        ensures { result ≡ is_cap self.0 }
-    {
-        self.0 <= 0x0A
-    }
-
-    // A capability's code, read.
-    pub fn unmarshal(s: &[u8], at: usize) -> TpmCapRead
-        ensures { tpm_cap_answer result ≡ read (one 4 cap) s.now at }
-    {
-        match uint32(s, at) {
-            Uint32Read::Found(n, e) => {
-                let c = TpmCap(n);
-                if c.is_listed() {
-                    TpmCapRead::Found(c, e)
-                } else {
-                    TpmCapRead::No(Refusal::unknown_code(at, wider(n)))
-                }
-            }
-            Uint32Read::No(f) => TpmCapRead::No(f),
-        }
-    }
 }
 
 impl TpmHt {
-    pub const NvIndex: TpmHt = TpmHt(registry::HT_NV_INDEX);
+    pub const NvIndex: TpmHt = TpmHt(0x01);
 
-    pub const ExternalNv: TpmHt = TpmHt(registry::HT_EXTERNAL_NV);
+    pub const ExternalNv: TpmHt = TpmHt(0x11);
 
-    pub const PermanentNv: TpmHt = TpmHt(registry::HT_PERMANENT_NV);
+    pub const PermanentNv: TpmHt = TpmHt(0x12);
 
     // Their codes, rising.
     pub fn named() -> [u8; 3]
@@ -470,43 +325,16 @@ impl TpmHt {
     {
         [TpmHt::NvIndex.0, TpmHt::ExternalNv.0, TpmHt::PermanentNv.0]
     }
-
-    // Whether the code is one of the 3 handle types of NV areas.
-    pub fn is_listed(self) -> bool
-        ensures { result ≡ is_handle_type self.0 }
-    {
-        let n = self.0;
-        (n == registry::HT_NV_INDEX)
-            | (n == registry::HT_EXTERNAL_NV)
-            | (n == registry::HT_PERMANENT_NV)
-    }
-
-    // A handle type's code, read.
-    pub fn unmarshal(s: &[u8], at: usize) -> TpmHtRead
-        ensures { tpm_ht_answer result ≡ read (one 1 handle_type) s.now at }
-    {
-        match uint8(s, at) {
-            Uint8Read::Found(n, e) => {
-                let t = TpmHt(n);
-                if t.is_listed() {
-                    TpmHtRead::Found(t, e)
-                } else {
-                    TpmHtRead::No(Refusal::unknown_code(at, wide_byte(n)))
-                }
-            }
-            Uint8Read::No(f) => TpmHtRead::No(f),
-        }
-    }
 }
 
 impl TpmRh {
-    pub const Owner: TpmRh = TpmRh(registry::RH_OWNER);
+    pub const Owner: TpmRh = TpmRh(0x40000001);
 
-    pub const Null: TpmRh = TpmRh(registry::RH_NULL);
+    pub const Null: TpmRh = TpmRh(0x40000007);
 
-    pub const Endorsement: TpmRh = TpmRh(registry::RH_ENDORSEMENT);
+    pub const Endorsement: TpmRh = TpmRh(0x4000000B);
 
-    pub const Platform: TpmRh = TpmRh(registry::RH_PLATFORM);
+    pub const Platform: TpmRh = TpmRh(0x4000000C);
 
     // Their codes, rising.
     pub fn named() -> [u32; 4]
@@ -519,32 +347,251 @@ impl TpmRh {
             TpmRh::Platform.0,
         ]
     }
+}
 
-    // Whether the code is one of the 4 hierarchies.
-    pub fn is_listed(self) -> bool
-        ensures { result ≡ is_hierarchy self.0 }
-    {
-        let n = self.0;
-        (n == registry::RH_OWNER)
-            | (n == registry::RH_NULL)
-            | (n == registry::RH_ENDORSEMENT)
-            | (n == registry::RH_PLATFORM)
+impl Number for TpmAlgId {
+    ghost width = { Two };
+
+    ghost number = { λ c. c.0 };
+
+    fn width() -> Width {
+        Width::Two
     }
 
-    // A hierarchy's code, read.
-    pub fn unmarshal(s: &[u8], at: usize) -> TpmRhRead
-        ensures { tpm_rh_answer result ≡ read (one 4 hierarchy) s.now at }
-    {
-        match uint32(s, at) {
-            Uint32Read::Found(n, e) => {
-                let h = TpmRh(n);
-                if h.is_listed() {
-                    TpmRhRead::Found(h, e)
-                } else {
-                    TpmRhRead::No(Refusal::unknown_code(at, wider(n)))
-                }
-            }
-            Uint32Read::No(f) => TpmRhRead::No(f),
+    fn number(self) -> u64 {
+        u64::from(self.0)
+    }
+}
+
+impl Code for TpmAlgId {
+    ghost is_listed = { is_algorithm };
+
+    fn any(s: &[u8], at: usize) -> Read<Self> {
+        let (n, end) = u16::unmarshal(s, at)?;
+        Ok((Self(n), end))
+    }
+
+    // Whether the code is one of the 44.
+    fn is_listed(self) -> bool {
+        let n = self.0;
+        match n {
+            0x00..=0x3F => (LISTED_LOW >> n) % 2 == 1,
+            0x40..=0x7F => (LISTED_HIGH >> (n - 0x40)) % 2 == 1,
+            _ => false,
         }
+    }
+}
+
+impl TpmUnmarshal for TpmAlgId {
+    ghost layout = { one 2 alg };
+
+    ghost parts = { tpm_alg_id_parts };
+
+    fn unmarshal(s: &[u8], at: usize) -> Read<Self> {
+        read_code(s, at)
+    }
+}
+
+impl Number for TpmEccCurve {
+    ghost width = { Two };
+
+    ghost number = { λ c. c.0 };
+
+    fn width() -> Width {
+        Width::Two
+    }
+
+    fn number(self) -> u64 {
+        u64::from(self.0)
+    }
+}
+
+impl Code for TpmEccCurve {
+    ghost is_listed = { is_curve };
+
+    fn any(s: &[u8], at: usize) -> Read<Self> {
+        let (n, end) = u16::unmarshal(s, at)?;
+        Ok((Self(n), end))
+    }
+
+    // Whether the code is one of the 14.
+    fn is_listed(self) -> bool {
+        let n = self.0;
+        within(0x00, 0x05, n)
+            | within(0x10, 0x11, n)
+            | within(0x20, 0x20, n)
+            | within(0x30, 0x32, n)
+            | within(0x40, 0x41, n)
+    }
+}
+
+impl TpmUnmarshal for TpmEccCurve {
+    ghost layout = { one 2 curve };
+
+    ghost parts = { tpm_ecc_curve_parts };
+
+    fn unmarshal(s: &[u8], at: usize) -> Read<Self> {
+        read_code(s, at)
+    }
+}
+
+impl Number for TpmSt {
+    ghost width = { Two };
+
+    ghost number = { λ c. c.0 };
+
+    fn width() -> Width {
+        Width::Two
+    }
+
+    fn number(self) -> u64 {
+        u64::from(self.0)
+    }
+}
+
+impl Code for TpmSt {
+    ghost is_listed = { is_attestation };
+
+    fn any(s: &[u8], at: usize) -> Read<Self> {
+        let (n, end) = u16::unmarshal(s, at)?;
+        Ok((Self(n), end))
+    }
+
+    // Whether the code is one of the 8 attestation types.
+    fn is_listed(self) -> bool {
+        let n = self.0;
+        within(0x8014, 0x801A, n) | within(0x801C, 0x801C, n)
+    }
+}
+
+impl TpmUnmarshal for TpmSt {
+    ghost layout = { one 2 attestation };
+
+    ghost parts = { tpm_st_parts };
+
+    fn unmarshal(s: &[u8], at: usize) -> Read<Self> {
+        read_code(s, at)
+    }
+}
+
+impl Number for TpmCap {
+    ghost width = { Four };
+
+    ghost number = { λ c. c.0 };
+
+    fn width() -> Width {
+        Width::Four
+    }
+
+    fn number(self) -> u64 {
+        u64::from(self.0)
+    }
+}
+
+impl Code for TpmCap {
+    ghost is_listed = { is_cap };
+
+    fn any(s: &[u8], at: usize) -> Read<Self> {
+        let (n, end) = u32::unmarshal(s, at)?;
+        Ok((Self(n), end))
+    }
+
+    // Whether the code is one of the 11 capabilities.
+    fn is_listed(self) -> bool {
+        self.0 <= 0x0A
+    }
+}
+
+impl TpmUnmarshal for TpmCap {
+    ghost layout = { one 4 cap };
+
+    ghost parts = { tpm_cap_parts };
+
+    fn unmarshal(s: &[u8], at: usize) -> Read<Self> {
+        read_code(s, at)
+    }
+}
+
+impl Number for TpmHt {
+    ghost width = { One };
+
+    ghost number = { λ c. c.0 };
+
+    fn width() -> Width {
+        Width::One
+    }
+
+    fn number(self) -> u64 {
+        u64::from(self.0)
+    }
+}
+
+impl Code for TpmHt {
+    ghost is_listed = { is_handle_type };
+
+    fn any(s: &[u8], at: usize) -> Read<Self> {
+        let (n, end) = u8::unmarshal(s, at)?;
+        Ok((Self(n), end))
+    }
+
+    // Whether the code is one of the 3 handle types of NV areas.
+    #[tactic(auto, unfolding(crate::specs::Codes::is_handle_type, crate::specs::Codes::handle_types))]
+    fn is_listed(self) -> bool {
+        matches!(
+            self,
+            TpmHt::NvIndex | TpmHt::ExternalNv | TpmHt::PermanentNv
+        )
+    }
+}
+
+impl TpmUnmarshal for TpmHt {
+    ghost layout = { one 1 handle_type };
+
+    ghost parts = { tpm_ht_parts };
+
+    fn unmarshal(s: &[u8], at: usize) -> Read<Self> {
+        read_code(s, at)
+    }
+}
+
+impl Number for TpmRh {
+    ghost width = { Four };
+
+    ghost number = { λ c. c.0 };
+
+    fn width() -> Width {
+        Width::Four
+    }
+
+    fn number(self) -> u64 {
+        u64::from(self.0)
+    }
+}
+
+impl Code for TpmRh {
+    ghost is_listed = { is_hierarchy };
+
+    fn any(s: &[u8], at: usize) -> Read<Self> {
+        let (n, end) = u32::unmarshal(s, at)?;
+        Ok((Self(n), end))
+    }
+
+    // Whether the code is one of the 4 hierarchies.
+    #[tactic(auto, unfolding(crate::specs::Codes::is_hierarchy, crate::specs::Codes::hierarchies))]
+    fn is_listed(self) -> bool {
+        matches!(
+            self,
+            TpmRh::Owner | TpmRh::Null | TpmRh::Endorsement | TpmRh::Platform
+        )
+    }
+}
+
+impl TpmUnmarshal for TpmRh {
+    ghost layout = { one 4 hierarchy };
+
+    ghost parts = { tpm_rh_parts };
+
+    fn unmarshal(s: &[u8], at: usize) -> Read<Self> {
+        read_code(s, at)
     }
 }

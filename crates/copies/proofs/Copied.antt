@@ -7,9 +7,9 @@ use mathlib.Core.Logic.{◌⊎◌, inl, inr}
 use mathlib.Core.List.{List, ◌++◌}
 use lib.ListN.{length, take, drop}
 use lib.Seq.{take_at}
+use Rattle.std.specs.Prelude.{Err, Ok, Result}
 use Rattle.faults.specs.declared.Refusal.{Refusal}
 use Rattle.faults.specs.Faults.{no_room}
-use Rattle.wire.specs.declared.measure.Measure.{Measure}
 use Rattle.wire.specs.Answers.{measure_answer}
 use Rattle.wire.specs.Bytes.{Bytes}
 use Rattle.wire.specs.Records.{Ans, found, refused, Parsed}
@@ -61,25 +61,25 @@ module _ (k : ℕ) (src : List ℕ) where
 
 -- ---- what a measure owes, from its equation
 
-module _ (k : ℕ) (src : List ℕ) (r : Measure) (b : Bytes src) (answer : measure_answer r ≡ size_of (record_bytes k src)) where
-  none_read : {f : Refusal} → r ≡ Measure.No f → read_kind k src 0 ≡ refused f
+module _ (k : ℕ) (src : List ℕ) (r : Result ℕ Refusal) (b : Bytes src) (answer : measure_answer r ≡ size_of (record_bytes k src)) where
+  none_read : {f : Refusal} → r ≡ Err f → read_kind k src 0 ≡ refused f
   none_read e = no_bytes_read k src (size_of_refused (record_bytes k src) (size_told (record_bytes k src) r answer e))
 
-  measured_legal : {n : ℕ} → r ≡ Measure.Size n → (ts : List Token) × (bs : List ℕ) × Begins k src ts bs × (length bs ≡ n)
+  measured_legal : {n : ℕ} → r ≡ Ok n → (ts : List Token) × (bs : List ℕ) × Begins k src ts bs × (length bs ≡ n)
   measured_legal e =
       let (bs, there, size) = size_of_bytes (record_bytes k src) (size_told (record_bytes k src) r answer e) in
       let (ts, d) = bytes_are_legal k src b there in
       (ts, bs, d, size)
 
-  first_not_measured : {f : Refusal} → RefusesKind k src 0 f → r ≡ Measure.No f
+  first_not_measured : {f : Refusal} → RefusesKind k src 0 f → r ≡ Err f
   unfolding record_bytes
-  first_not_measured {f} d = size_answers (record_bytes k src) r answer (Measure.No f) (ap (λ a. size_of (bytes_read a src)) (first_is_refusal_by_number k d))
+  first_not_measured {f} d = size_answers (record_bytes k src) r answer (Err f) (ap (λ a. size_of (bytes_read a src)) (first_is_refusal_by_number k d))
 
   pub measures_kind : MeasuresKind k src r
   measures_kind =
       record {
         answer = answer;
-        legal_is_measured = λ {ts} {bs} d. size_answers (record_bytes k src) r answer (Measure.Size (length bs)) (ap size_of (legal_bytes k src d));
+        legal_is_measured = λ {ts} {bs} d. size_answers (record_bytes k src) r answer (Ok (length bs)) (ap size_of (legal_bytes k src d));
         measured_is_legal = measured_legal;
         refusal_is_first = λ e. refusal_by_number_is_first k src 0 b (none_read e);
         refusal_says_what_it_had = λ {f} e. refused_by_number_says_what_it_had k src 0 f (none_read e);
@@ -88,25 +88,25 @@ module _ (k : ℕ) (src : List ℕ) (r : Measure) (b : Bytes src) (answer : meas
 
 -- ---- what a copy owes, from its two equations
 
-module _ (k : ℕ) (src old last : List ℕ) (r : Measure) (b : Bytes src) (answer : measure_answer r ≡ written 0 (record_bytes k src) old) (buffer : last ≡ filled 0 (record_bytes k src) old) where
-  told : {s : Measure} → r ≡ s → written 0 (record_bytes k src) old ≡ measure_answer s
+module _ (k : ℕ) (src old last : List ℕ) (r : Result ℕ Refusal) (b : Bytes src) (answer : measure_answer r ≡ written 0 (record_bytes k src) old) (buffer : last ≡ filled 0 (record_bytes k src) old) where
+  told : {s : Result ℕ Refusal} → r ≡ s → written 0 (record_bytes k src) old ≡ measure_answer s
   told e = sym answer ∙ ap measure_answer e
 
-  answers : (s : Measure) → written 0 (record_bytes k src) old ≡ measure_answer s → r ≡ s
+  answers : (s : Result ℕ Refusal) → written 0 (record_bytes k src) old ≡ measure_answer s → r ≡ s
   answers s e = measure_answer_once r s (answer ∙ e)
 
-  legal_copied : {ts : List Token} {bs : List ℕ} → Begins k src ts bs → length bs ≤ length old → (r ≡ Measure.Size (length bs)) × (last ≡ bs ++ drop (length bs) old)
+  legal_copied : {ts : List Token} {bs : List ℕ} → Begins k src ts bs → length bs ≤ length old → (r ≡ Ok (length bs)) × (last ≡ bs ++ drop (length bs) old)
   legal_copied {bs = bs} d room =
       let (size, held) = room_is_used old (record_bytes k src) (legal_bytes k src d) room in
-      (answers (Measure.Size (length bs)) size, buffer ∙ held)
+      (answers (Ok (length bs)) size, buffer ∙ held)
 
-  size_legal : {n : ℕ} → r ≡ Measure.Size n → (ts : List Token) × (bs : List ℕ) × Begins k src ts bs × (length bs ≡ n) × (n ≤ length old) × (last ≡ bs ++ drop n old)
+  size_legal : {n : ℕ} → r ≡ Ok n → (ts : List Token) × (bs : List ℕ) × Begins k src ts bs × (length bs ≡ n) × (n ≤ length old) × (last ≡ bs ++ drop n old)
   size_legal e =
       let (bs, there, size, room, held) = size_is_of_bytes old (record_bytes k src) (told e) in
       let (ts, d) = bytes_are_legal k src b there in
       (ts, bs, d, size, room, buffer ∙ held)
 
-  why_refused : {f : Refusal} → r ≡ Measure.No f
+  why_refused : {f : Refusal} → r ≡ Err f
       → RefusesKind k src 0 f ⊎ ((ts : List Token) × (bs : List ℕ) × Begins k src ts bs × (length old < length bs) × (f ≡ no_room 0 (length bs)))
   why_refused {f} e = by (refusal_or_no_room old (record_bytes k src) (told e))
     where
@@ -115,14 +115,14 @@ module _ (k : ℕ) (src old last : List ℕ) (r : Measure) (b : Bytes src) (answ
       by (inl none) = inl (refusal_by_number_is_first k src 0 b (no_bytes_read k src none))
       by (inr (bs, there, short, same)) = let (ts, d) = bytes_are_legal k src b there in inr (ts, bs, d, short, same)
 
-  says_what_it_had : {f : Refusal} → r ≡ Measure.No f → Had src f
+  says_what_it_had : {f : Refusal} → r ≡ Err f → Had src f
   says_what_it_had {f} e =
       lent_tells old (Had src) (record_bytes k src) (λ g none. refused_by_number_says_what_it_had k src 0 g (no_bytes_read k src none)) (λ n. other_had (other 7 refl refl))
       f (told e)
 
-  first_refused : {f : Refusal} → RefusesKind k src 0 f → r ≡ Measure.No f
+  first_refused : {f : Refusal} → RefusesKind k src 0 f → r ≡ Err f
   unfolding record_bytes
-  first_refused {f} d = answers (Measure.No f) (ap (λ a. written 0 (bytes_read a src) old) (first_is_refusal_by_number k d))
+  first_refused {f} d = answers (Err f) (ap (λ a. written 0 (bytes_read a src) old) (first_is_refusal_by_number k d))
 
   pub copies : Copies k src old r last
   copies =
@@ -135,5 +135,5 @@ module _ (k : ℕ) (src old last : List ℕ) (r : Measure) (b : Bytes src) (answ
         refusal_is_first = why_refused;
         refusal_says_what_it_had = says_what_it_had;
         first_is_refusal = first_refused;
-        legal_needs_room = λ {ts} {bs} d short. answers (Measure.No (no_room 0 (length bs))) (no_room_is_refused old (record_bytes k src) (legal_bytes k src d) short).0;
+        legal_needs_room = λ {ts} {bs} d short. answers (Err (no_room 0 (length bs))) (no_room_is_refused old (record_bytes k src) (legal_bytes k src d) short).0;
       }

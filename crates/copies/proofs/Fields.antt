@@ -4,7 +4,8 @@ use Prim.Native.Nat.{ℕ}
 use native.Mathlib.Omega.{arith}
 use mathlib.Core.Path.{◌≡◌, ap, ◌∙◌}
 use mathlib.Core.List.{List}
-use Rattle.wire.specs.declared.measure.Measure.{Measure}
+use Rattle.std.specs.Prelude.{Result}
+use Rattle.faults.specs.declared.Refusal.{Refusal}
 use Rattle.wire.specs.Answers.{measure_answer}
 use Rattle.wire.specs.Bytes.{Bytes}
 use Rattle.wire.specs.Records.{Part, parsed}
@@ -23,7 +24,7 @@ module _ (k : ℕ) (src : List ℕ) (at : ℕ) {ps : List Part} {e : ℕ} (b : B
       read_records_field_is_its_bytes_token (layout_of k) src at b (omega arith) there
 
   -- so is what the calls of the kind answer: `part` is what `field` hands out for an index, and `size` what `field_size` answers
-  pub field_handed_out_is_the_bytes_token : (i : ℕ) {part : List ℕ} (size : Measure) → part ≡ part_of (field_of ps i src) → measure_answer size ≡ size_of (field_of ps i src)
+  pub field_handed_out_is_the_bytes_token : (i : ℕ) {part : List ℕ} (size : Result ℕ Refusal) → part ≡ part_of (field_of ps i src) → measure_answer size ≡ size_of (field_of ps i src)
       → (d : Starts (layout_of k) src at e) × (ps ≡ placed d.spells at) × (part ≡ part_of (bytes_token d.tokens i)) × (measure_answer size ≡ size_of (bytes_token d.tokens i))
   field_handed_out_is_the_bytes_token i size handed measured =
       let (d, same, fields) = byte_fields_are_the_bytes_tokens in

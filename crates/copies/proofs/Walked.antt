@@ -8,18 +8,17 @@ use mathlib.Core.List.{List}
 use lib.ListN.{length, take}
 use lib.Dec.{leb}
 use borrow.Author.Tests.{leb-true}
+use Rattle.std.specs.Prelude.{Result}
 use Rattle.faults.specs.declared.Refusal.{Refusal}
 use Rattle.faults.specs.Faults.{bad_kind}
-use Rattle.wire.specs.declared.measure.Measure.{Measure}
 use Rattle.wire.specs.Answers.{measure_answer}
 use Rattle.wire.specs.Bytes.{Bytes}
 use Rattle.wire.specs.Layout.{Layout}
-use Rattle.wire.specs.Records.{Part, Ans, found, refused, next, Parsed}
+use Rattle.wire.specs.Records.{Part, Ans, found, refused, Parsed, parsed}
 use Rattle.wire.specs.Reading.{read}
 use Rattle.wire.specs.Writing.{lay}
 use Rattle.wire.specs.Fields.{size_of}
 use Rattle.wire.specs.Filling.{written, filled}
-use Rattle.wire.proofs.Search.{known}
 use Rattle.wire.proofs.Steps.{found_same, refused_same, found_refused, when_found}
 use Rattle.wire.proofs.Written.{read_then_lay}
 use Rattle.format.specs.Kinds.{is_kind, layout_of, read_kind}
@@ -34,29 +33,16 @@ use Rattle.copies.proofs.Copied.{measures_kind, copies}
 use Rattle.format.proofs.Numbered.{of_kind, no_kind_read}
 pub use borrow.Author.Rules.{rules}
 
+-- a record was read, and its fields were walked over; where it ends does not matter
+pub as_walked : (l : Layout) (src : List ℕ) {y : Ans Parsed} {ps ls : List Part} {e k : ℕ} {u v : Here} → parsed ps e ≡ y → Walks k l ps ls src u v → leb k 24 ≡ true → leb (length ls) 1 ≡ true → WalkOf l src y u v
+as_walked l src {ps = ps} {ls} {e} {k} {u} {v} told p few one = record {
+  walked = λ q. (ls, subst (λ qs. Walks 24 l qs ls src u v) (ap (λ r. r.parts) (found_same (told ∙ q))) (by_more src k 24 l ps ls u v p few), leb-true (length ls) 1 one);
+  none = λ q. absurd (found_refused (sym (told ∙ q)));
+}
+
 -- a reader refused, and so is the walk
-none_walked : (l : Layout) (y : Ans Parsed) (src : List ℕ) (f : Refusal) (w r : Walk) (out : List ℕ) → refused f ≡ y → r ≡ refusing f → WalkOf l src y (here w out) (here r out)
-none_walked l y src f w r out e is = record { walked = λ p. absurd (found_refused (e ∙ p)); none = λ p. ap (λ x. here x out) (is ∙ ap refusing (refused_same (e ∙ p))) }
-
--- ---- for `search`: `ans` says what the reader's answers mean, a is its answer, and b says which one that is
-
-module _ {A : Type 0} (ans : A → Ans Parsed) (a b : A) (l : Layout) (y : Ans Parsed) (src : List ℕ) where
-  -- a record was read, and its fields were walked over; where it ends does not matter
-  pub as_walked : (k : ℕ) (ps ls : List Part) (u v : Here) → Walks k l ps ls src u v → a ≡ b → ans a ≡ y → next (ans b) (λ r. found r.parts) ≡ found ps → leb k 24 ≡ true → leb (length ls) 1 ≡ true → WalkOf l src y u v
-  as_walked k ps ls u v p q told is few one = record { walked = λ e. (ls, subst (λ qs. Walks 24 l qs ls src u v) (same e) (by_more src k 24 l ps ls u v p few), leb-true (length ls) 1 one); none = λ e. absurd (found_refused (no_parts e)) }
-    where
-      answered : {x : Ans Parsed} → y ≡ x → ans b ≡ x
-      answered e = sym (ap ans q) ∙ told ∙ e
-
-      same : {r : Parsed} → y ≡ found r → ps ≡ r.parts
-      same e = found_same (sym is ∙ ap (λ x. next x (λ r. found r.parts)) (answered e))
-
-      no_parts : {f : Refusal} → y ≡ refused f → refused f ≡ found ps
-      no_parts e = sym (ap (λ x. next x (λ r. found r.parts)) (answered e)) ∙ is
-
-  -- none was
-  pub not_walked : (f : Refusal) (w r : Walk) (out : List ℕ) → r ≡ refusing f → a ≡ b → ans a ≡ y → refused f ≡ ans b → WalkOf l src y (here w out) (here r out)
-  not_walked f w r out is q told says = none_walked l y src f w r out (known ans q told says) is
+pub not_walked : (l : Layout) (src : List ℕ) {y : Ans Parsed} {f : Refusal} {w r : Walk} {out : List ℕ} → refused f ≡ y → r ≡ refusing f → WalkOf l src y (here w out) (here r out)
+not_walked l src {out = out} e is = record { walked = λ p. absurd (found_refused (e ∙ p)); none = λ p. ap (λ x. here x out) (is ∙ ap refusing (refused_same (e ∙ p))) }
 
 -- ---- by the kind's number
 
@@ -64,7 +50,7 @@ pub kind_walked : (j k : ℕ) (src : List ℕ) (u v : Here) → k ≡ j → is_k
 kind_walked j k src u v e h p = rw (e, ← of_kind j src 0 refl h) p
 
 pub no_kind_walked : (k : ℕ) (src : List ℕ) {f : Refusal} {w r : Walk} {out : List ℕ} → r ≡ refusing f → f ≡ bad_kind k → is_kind k ≡ false → WalkOf (layout_of k) src (read_kind k src 0) (here w out) (here r out)
-no_kind_walked k src {f} {w} {r} {out} is e h = none_walked (layout_of k) (read_kind k src 0) src f w r out (ap refused e ∙ no_kind_read k src 0 h) is
+no_kind_walked k src is e h = not_walked (layout_of k) src (ap refused e ∙ no_kind_read k src 0 h) is
 
 -- what is read by a kind's number is read by its layout, and lies in the input as it stands
 pub read_of_kind : (k : ℕ) (src : List ℕ) {r : Parsed} → read_kind k src 0 ≡ found r → read (layout_of k) src 0 ≡ found r
@@ -76,7 +62,7 @@ read_bytes k src r b p = let all : r.stops - 0 ≡ r.stops = omega arith in read
 
 -- ---- a walk that judges the record, and one that puts it
 
-pub measured_kind : (k : ℕ) (src old mid : List ℕ) (u w : Walk) (r : Measure) → Bytes src → u ≡ judging 0 → WalkOf (layout_of k) src (read_kind k src 0) (here u old) (here w mid)
+pub measured_kind : (k : ℕ) (src old mid : List ℕ) (u w : Walk) (r : Result ℕ Refusal) → Bytes src → u ≡ judging 0 → WalkOf (layout_of k) src (read_kind k src 0) (here u old) (here w mid)
     → measure_answer r ≡ walk_answer w → MeasuresKind k src r
 unfolding record_bytes
 measured_kind k src old mid u w r b begin walks told = measures_kind k src r b (by (read_kind k src 0) refl)
@@ -87,7 +73,7 @@ measured_kind k src old mid u w r b begin walks told = measures_kind k src r b (
         (measured 24 (layout_of k) x.parts ls src old mid u w r begin p told refl).answer ∙ ap size_of (read_bytes k src x b e) ∙ rw e
     by (refused f) e = told ∙ ap (λ h. walk_answer h.walk) (walks.none e) ∙ refusing_answer f ∙ rw e
 
-pub copied : (k : ℕ) (src old last : List ℕ) (v z : Walk) (m r : Measure) → Bytes src → MeasuresKind k src m → v ≡ ready_walk (measure_answer m) (length old)
+pub copied : (k : ℕ) (src old last : List ℕ) (v z : Walk) (m r : Result ℕ Refusal) → Bytes src → MeasuresKind k src m → v ≡ ready_walk (measure_answer m) (length old)
     → WalkOf (layout_of k) src (read_kind k src 0) (here v old) (here z last) → measure_answer r ≡ walk_answer z → Copies k src old r last
 unfolding record_bytes
 copied k src old last v z m r b size ready walks told = by (read_kind k src 0) refl

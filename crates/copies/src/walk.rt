@@ -1,209 +1,64 @@
 // A record of any kind by the kind's number, walked over: listed, measured, or copied.
 ghost use Rattle.wire.specs.Reading.{read};
-ghost use Rattle.format.specs.Kinds.{tpmt_ha, tpmt_sym_def, tpmt_kdf_scheme, tpmt_keyedhash_scheme, tpmt_sig_scheme, tpmt_asym_scheme, tpmt_public_parms, tpmt_signature, tpmt_public, tpmt_sensitive, tpms_attest, tpml_pcr_selection, tpms_capability_data, tpmt_nv_public2, tpmt_tk_creation, tpmt_tk_verified, tpmt_tk_hashcheck, tpmt_tk_auth, layout_of, read_kind};
+ghost use Rattle.format.specs.Kinds.{layout_of, read_kind};
+ghost use Rattle.format.specs.Numbers.{number_of};
 ghost use Rattle.steps.specs.Walks.{here};
 ghost use Rattle.copies.specs.Walked.{WalkOf};
 ghost use Rattle.copies.specs.Copied.{MeasuresKind, Copies};
 
-use areas::tpmt::{
-    TpmtNvPublic2, TpmtNvPublic2Read, TpmtTkAuth, TpmtTkAuthRead, TpmtTkCreation,
-    TpmtTkCreationRead, TpmtTkHashcheck, TpmtTkHashcheckRead, TpmtTkVerified, TpmtTkVerifiedRead,
-};
-use attest::attestation::{TpmsAttest, TpmsAttestRead};
-use attest::list::{TpmlPcrSelection, TpmlPcrSelectionRead};
-use capabilities::tpms::{TpmsCapabilityData, TpmsCapabilityDataRead};
-use ciphers::tpmt::{TpmtHa, TpmtHaRead, TpmtSymDef, TpmtSymDefRead};
+use areas::tpmt::{TpmtNvPublic2, TpmtTkAuth, TpmtTkCreation, TpmtTkHashcheck, TpmtTkVerified};
+use attest::attestation::TpmsAttest;
+use attest::list::TpmlPcrSelection;
+use capabilities::tpms::TpmsCapabilityData;
+use ciphers::tpmt::{TpmtHa, TpmtSymDef};
 use faults::Refusal;
-use keys::tpmt::{TpmtPublic, TpmtPublicRead};
-use parameters::tpmt::{TpmtPublicParms, TpmtPublicParmsRead};
+use format::kind::Kind;
+use keys::tpmt::TpmtPublic;
+use parameters::tpmt::TpmtPublicParms;
 use schemes::tpmt::{
-    TpmtEccScheme, TpmtEccSchemeRead, TpmtKdfScheme, TpmtKdfSchemeRead, TpmtKeyedhashScheme,
-    TpmtKeyedhashSchemeRead, TpmtRsaDecrypt, TpmtRsaDecryptRead, TpmtRsaScheme, TpmtRsaSchemeRead,
-    TpmtSigScheme, TpmtSigSchemeRead,
+    TpmtEccScheme, TpmtKdfScheme, TpmtKeyedhashScheme, TpmtRsaDecrypt, TpmtRsaScheme, TpmtSigScheme,
 };
-use sensitive::tpmt::{TpmtSensitive, TpmtSensitiveRead};
-use signatures::tpmt::{TpmtSignature, TpmtSignatureRead};
+use sensitive::tpmt::TpmtSensitive;
+use signatures::tpmt::TpmtSignature;
+use steps::marshal::TpmMarshal;
 use steps::walk::{Walk, judging, ready, refusing};
-use wire::measure::Measure;
-use wire::widen::wide_byte;
 
-fn tpmt_ha_walk(s: &[u8], w: Walk, out: &mut [u8]) -> Walk
-    ensures { WalkOf tpmt_ha s.now (read tpmt_ha s.now 0) (here w out.old) (here result out.new) }
+// The record of that type that s starts with.
+fn walk_of<T: TpmMarshal>(s: &[u8], w: Walk, out: &mut [u8]) -> Walk
+    ensures { WalkOf T.layout s.now (read T.layout s.now 0) (here w out.old) (here result out.new) }
 {
-    match TpmtHa::unmarshal(s, 0) {
-        TpmtHaRead::Found(x, _) => x.walk(w, s, out),
-        TpmtHaRead::No(f) => refusing(f),
+    match T::unmarshal(s, 0) {
+        Ok((x, _)) => x.walk(w, s, out),
+        Err(f) => refusing(f),
     }
 }
 
-fn tpmt_sym_def_walk(s: &[u8], w: Walk, out: &mut [u8]) -> Walk
-    ensures { WalkOf tpmt_sym_def s.now (read tpmt_sym_def s.now 0) (here w out.old) (here result out.new) }
+// That of that kind.
+#[tactic(auto, unfolding(format::specs::Kinds::layout_of, format::specs::Kinds::kinds))]
+fn walk_by_kind(kind: Kind, s: &[u8], w: Walk, out: &mut [u8]) -> Walk
+    ensures { WalkOf (layout_of (number_of kind)) s.now (read (layout_of (number_of kind)) s.now 0) (here w out.old) (here result out.new) }
 {
-    match TpmtSymDef::unmarshal(s, 0) {
-        TpmtSymDefRead::Found(x, _) => x.walk(w, s, out),
-        TpmtSymDefRead::No(f) => refusing(f),
-    }
-}
-
-fn tpmt_kdf_scheme_walk(s: &[u8], w: Walk, out: &mut [u8]) -> Walk
-    ensures { WalkOf tpmt_kdf_scheme s.now (read tpmt_kdf_scheme s.now 0) (here w out.old) (here result out.new) }
-{
-    match TpmtKdfScheme::unmarshal(s, 0) {
-        TpmtKdfSchemeRead::Found(x, _) => x.walk(w, s, out),
-        TpmtKdfSchemeRead::No(f) => refusing(f),
-    }
-}
-
-fn tpmt_keyedhash_scheme_walk(s: &[u8], w: Walk, out: &mut [u8]) -> Walk
-    ensures { WalkOf tpmt_keyedhash_scheme s.now (read tpmt_keyedhash_scheme s.now 0) (here w out.old) (here result out.new) }
-{
-    match TpmtKeyedhashScheme::unmarshal(s, 0) {
-        TpmtKeyedhashSchemeRead::Found(x, _) => x.walk(w, s, out),
-        TpmtKeyedhashSchemeRead::No(f) => refusing(f),
-    }
-}
-
-fn tpmt_sig_scheme_walk(s: &[u8], w: Walk, out: &mut [u8]) -> Walk
-    ensures { WalkOf tpmt_sig_scheme s.now (read tpmt_sig_scheme s.now 0) (here w out.old) (here result out.new) }
-{
-    match TpmtSigScheme::unmarshal(s, 0) {
-        TpmtSigSchemeRead::Found(x, _) => x.walk(w, s, out),
-        TpmtSigSchemeRead::No(f) => refusing(f),
-    }
-}
-
-fn tpmt_rsa_scheme_walk(s: &[u8], w: Walk, out: &mut [u8]) -> Walk
-    ensures { WalkOf tpmt_asym_scheme s.now (read tpmt_asym_scheme s.now 0) (here w out.old) (here result out.new) }
-{
-    match TpmtRsaScheme::unmarshal(s, 0) {
-        TpmtRsaSchemeRead::Found(x, _) => x.walk(w, s, out),
-        TpmtRsaSchemeRead::No(f) => refusing(f),
-    }
-}
-
-fn tpmt_ecc_scheme_walk(s: &[u8], w: Walk, out: &mut [u8]) -> Walk
-    ensures { WalkOf tpmt_asym_scheme s.now (read tpmt_asym_scheme s.now 0) (here w out.old) (here result out.new) }
-{
-    match TpmtEccScheme::unmarshal(s, 0) {
-        TpmtEccSchemeRead::Found(x, _) => x.walk(w, s, out),
-        TpmtEccSchemeRead::No(f) => refusing(f),
-    }
-}
-
-fn tpmt_rsa_decrypt_walk(s: &[u8], w: Walk, out: &mut [u8]) -> Walk
-    ensures { WalkOf tpmt_asym_scheme s.now (read tpmt_asym_scheme s.now 0) (here w out.old) (here result out.new) }
-{
-    match TpmtRsaDecrypt::unmarshal(s, 0) {
-        TpmtRsaDecryptRead::Found(x, _) => x.walk(w, s, out),
-        TpmtRsaDecryptRead::No(f) => refusing(f),
-    }
-}
-
-fn tpmt_public_parms_walk(s: &[u8], w: Walk, out: &mut [u8]) -> Walk
-    ensures { WalkOf tpmt_public_parms s.now (read tpmt_public_parms s.now 0) (here w out.old) (here result out.new) }
-{
-    match TpmtPublicParms::unmarshal(s, 0) {
-        TpmtPublicParmsRead::Found(x, _) => x.walk(w, s, out),
-        TpmtPublicParmsRead::No(f) => refusing(f),
-    }
-}
-
-fn tpmt_signature_walk(s: &[u8], w: Walk, out: &mut [u8]) -> Walk
-    ensures { WalkOf tpmt_signature s.now (read tpmt_signature s.now 0) (here w out.old) (here result out.new) }
-{
-    match TpmtSignature::unmarshal(s, 0) {
-        TpmtSignatureRead::Found(x, _) => x.walk(w, s, out),
-        TpmtSignatureRead::No(f) => refusing(f),
-    }
-}
-
-fn tpmt_public_walk(s: &[u8], w: Walk, out: &mut [u8]) -> Walk
-    ensures { WalkOf tpmt_public s.now (read tpmt_public s.now 0) (here w out.old) (here result out.new) }
-{
-    match TpmtPublic::unmarshal(s, 0) {
-        TpmtPublicRead::Found(x, _) => x.walk(w, s, out),
-        TpmtPublicRead::No(f) => refusing(f),
-    }
-}
-
-fn tpmt_sensitive_walk(s: &[u8], w: Walk, out: &mut [u8]) -> Walk
-    ensures { WalkOf tpmt_sensitive s.now (read tpmt_sensitive s.now 0) (here w out.old) (here result out.new) }
-{
-    match TpmtSensitive::unmarshal(s, 0) {
-        TpmtSensitiveRead::Found(x, _) => x.walk(w, s, out),
-        TpmtSensitiveRead::No(f) => refusing(f),
-    }
-}
-
-fn tpms_attest_walk(s: &[u8], w: Walk, out: &mut [u8]) -> Walk
-    ensures { WalkOf tpms_attest s.now (read tpms_attest s.now 0) (here w out.old) (here result out.new) }
-{
-    match TpmsAttest::unmarshal(s, 0) {
-        TpmsAttestRead::Found(x, _) => x.walk(w, s, out),
-        TpmsAttestRead::No(f) => refusing(f),
-    }
-}
-
-fn tpml_pcr_selection_walk(s: &[u8], w: Walk, out: &mut [u8]) -> Walk
-    ensures { WalkOf tpml_pcr_selection s.now (read tpml_pcr_selection s.now 0) (here w out.old) (here result out.new) }
-{
-    match TpmlPcrSelection::unmarshal(s, 0) {
-        TpmlPcrSelectionRead::Found(x, _) => x.walk(w, s, out),
-        TpmlPcrSelectionRead::No(f) => refusing(f),
-    }
-}
-
-fn tpms_capability_data_walk(s: &[u8], w: Walk, out: &mut [u8]) -> Walk
-    ensures { WalkOf tpms_capability_data s.now (read tpms_capability_data s.now 0) (here w out.old) (here result out.new) }
-{
-    match TpmsCapabilityData::unmarshal(s, 0) {
-        TpmsCapabilityDataRead::Found(x, _) => x.walk(w, s, out),
-        TpmsCapabilityDataRead::No(f) => refusing(f),
-    }
-}
-
-fn tpmt_nv_public2_walk(s: &[u8], w: Walk, out: &mut [u8]) -> Walk
-    ensures { WalkOf tpmt_nv_public2 s.now (read tpmt_nv_public2 s.now 0) (here w out.old) (here result out.new) }
-{
-    match TpmtNvPublic2::unmarshal(s, 0) {
-        TpmtNvPublic2Read::Found(x, _) => x.walk(w, s, out),
-        TpmtNvPublic2Read::No(f) => refusing(f),
-    }
-}
-
-fn tpmt_tk_creation_walk(s: &[u8], w: Walk, out: &mut [u8]) -> Walk
-    ensures { WalkOf tpmt_tk_creation s.now (read tpmt_tk_creation s.now 0) (here w out.old) (here result out.new) }
-{
-    match TpmtTkCreation::unmarshal(s, 0) {
-        TpmtTkCreationRead::Found(x, _) => x.walk(w, s, out),
-        TpmtTkCreationRead::No(f) => refusing(f),
-    }
-}
-
-fn tpmt_tk_verified_walk(s: &[u8], w: Walk, out: &mut [u8]) -> Walk
-    ensures { WalkOf tpmt_tk_verified s.now (read tpmt_tk_verified s.now 0) (here w out.old) (here result out.new) }
-{
-    match TpmtTkVerified::unmarshal(s, 0) {
-        TpmtTkVerifiedRead::Found(x, _) => x.walk(w, s, out),
-        TpmtTkVerifiedRead::No(f) => refusing(f),
-    }
-}
-
-fn tpmt_tk_hashcheck_walk(s: &[u8], w: Walk, out: &mut [u8]) -> Walk
-    ensures { WalkOf tpmt_tk_hashcheck s.now (read tpmt_tk_hashcheck s.now 0) (here w out.old) (here result out.new) }
-{
-    match TpmtTkHashcheck::unmarshal(s, 0) {
-        TpmtTkHashcheckRead::Found(x, _) => x.walk(w, s, out),
-        TpmtTkHashcheckRead::No(f) => refusing(f),
-    }
-}
-
-fn tpmt_tk_auth_walk(s: &[u8], w: Walk, out: &mut [u8]) -> Walk
-    ensures { WalkOf tpmt_tk_auth s.now (read tpmt_tk_auth s.now 0) (here w out.old) (here result out.new) }
-{
-    match TpmtTkAuth::unmarshal(s, 0) {
-        TpmtTkAuthRead::Found(x, _) => x.walk(w, s, out),
-        TpmtTkAuthRead::No(f) => refusing(f),
+    match kind {
+        Kind::TpmtHa => walk_of::<TpmtHa>(s, w, out),
+        Kind::TpmtSymDef => walk_of::<TpmtSymDef>(s, w, out),
+        Kind::TpmtKdfScheme => walk_of::<TpmtKdfScheme>(s, w, out),
+        Kind::TpmtKeyedhashScheme => walk_of::<TpmtKeyedhashScheme>(s, w, out),
+        Kind::TpmtSigScheme => walk_of::<TpmtSigScheme>(s, w, out),
+        Kind::TpmtRsaScheme => walk_of::<TpmtRsaScheme>(s, w, out),
+        Kind::TpmtEccScheme => walk_of::<TpmtEccScheme>(s, w, out),
+        Kind::TpmtRsaDecrypt => walk_of::<TpmtRsaDecrypt>(s, w, out),
+        Kind::TpmtPublicParms => walk_of::<TpmtPublicParms>(s, w, out),
+        Kind::TpmtSignature => walk_of::<TpmtSignature>(s, w, out),
+        Kind::TpmtPublic => walk_of::<TpmtPublic>(s, w, out),
+        Kind::TpmtSensitive => walk_of::<TpmtSensitive>(s, w, out),
+        Kind::TpmsAttest => walk_of::<TpmsAttest>(s, w, out),
+        Kind::TpmlPcrSelection => walk_of::<TpmlPcrSelection>(s, w, out),
+        Kind::TpmsCapabilityData => walk_of::<TpmsCapabilityData>(s, w, out),
+        Kind::TpmtNvPublic2 => walk_of::<TpmtNvPublic2>(s, w, out),
+        Kind::TpmtTkCreation => walk_of::<TpmtTkCreation>(s, w, out),
+        Kind::TpmtTkVerified => walk_of::<TpmtTkVerified>(s, w, out),
+        Kind::TpmtTkHashcheck => walk_of::<TpmtTkHashcheck>(s, w, out),
+        Kind::TpmtTkAuth => walk_of::<TpmtTkAuth>(s, w, out),
     }
 }
 
@@ -212,40 +67,21 @@ fn tpmt_tk_auth_walk(s: &[u8], w: Walk, out: &mut [u8]) -> Walk
 pub fn walk(kind: u8, s: &[u8], w: Walk, out: &mut [u8]) -> Walk
     ensures { WalkOf (layout_of kind) s.now (read_kind kind s.now 0) (here w out.old) (here result out.new) }
 {
-    match kind {
-        1 => tpmt_ha_walk(s, w, out),
-        2 => tpmt_sym_def_walk(s, w, out),
-        3 => tpmt_kdf_scheme_walk(s, w, out),
-        4 => tpmt_keyedhash_scheme_walk(s, w, out),
-        5 => tpmt_sig_scheme_walk(s, w, out),
-        6 => tpmt_rsa_scheme_walk(s, w, out),
-        7 => tpmt_ecc_scheme_walk(s, w, out),
-        8 => tpmt_rsa_decrypt_walk(s, w, out),
-        9 => tpmt_public_parms_walk(s, w, out),
-        10 => tpmt_signature_walk(s, w, out),
-        11 => tpmt_public_walk(s, w, out),
-        12 => tpmt_sensitive_walk(s, w, out),
-        13 => tpms_attest_walk(s, w, out),
-        14 => tpml_pcr_selection_walk(s, w, out),
-        15 => tpms_capability_data_walk(s, w, out),
-        16 => tpmt_nv_public2_walk(s, w, out),
-        17 => tpmt_tk_creation_walk(s, w, out),
-        18 => tpmt_tk_verified_walk(s, w, out),
-        19 => tpmt_tk_hashcheck_walk(s, w, out),
-        20 => tpmt_tk_auth_walk(s, w, out),
-        _ => refusing(Refusal::bad_kind(wide_byte(kind))),
+    match Kind::try_from(kind) {
+        Ok(of) => walk_by_kind(of, s, w, out),
+        Err(f) => refusing(f),
     }
 }
 
 // The record of that kind that s starts with, measured: how long it is, or why not.
-pub fn measure(kind: u8, s: &[u8]) -> Measure
+pub fn measure(kind: u8, s: &[u8]) -> Result<usize, Refusal>
     ensures { MeasuresKind kind s.now result }
 {
     walk(kind, s, judging(0), &mut []).answer()
 }
 
 // The record of that kind that s starts with, copied into out: how long it is, or why not.
-pub fn copy(kind: u8, s: &[u8], out: &mut [u8]) -> Measure
+pub fn copy(kind: u8, s: &[u8], out: &mut [u8]) -> Result<usize, Refusal>
     ensures { Copies kind s.now out.old result out.new }
 {
     let w = ready(measure(kind, s), out.len());

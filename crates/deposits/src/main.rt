@@ -3,127 +3,90 @@
 // the size that it measures, and read whole it has that size too or, with a tail, is Trailing there.
 #![tactic(auto)]
 
-use codes::uint::{Uint16Read, uint16};
 use copies::walk::{copy, measure};
-use listing::deposit::{LISTING_ROOM, list_deposit};
+use faults::Fault;
+use listing::deposit::{LISTING_ROOM, RECORD_MOST, list_deposit};
 use records::whole::whole_end;
 use roundtrip::again::again;
 use text::put::put_hex;
-use wire::measure::Measure;
+use wire::unmarshal::TpmUnmarshal;
 
-fn write_listing(deposit: &[u8], out: &mut [u8]) {
-    match list_deposit(deposit, out) {
-        Measure::Size(n) => {
-            io::write_all(1, &out[..n]);
-        }
-        Measure::No(_) => {}
-    }
-}
+// No deposit is longer: a kind byte, and one byte more than is read.
+const DEPOSIT_MOST: usize = RECORD_MOST + 2;
 
-fn write_again_line(bytes: &[u8], out: &mut [u8]) {
-    let word = [b'a', b'g', b'a', b'i', b'n', b' '];
-    let end = [b'\n'];
-    if bytes.len() > 4095 {
-        return;
-    }
-    if out.len() < 8191 {
-        return;
-    }
-    io::write_all(1, &word);
-    let n = put_hex(bytes, out, 0);
-    if n <= out.len() {
+fn write_listing(deposit: &[u8]) {
+    let mut out = [0u8; LISTING_ROOM];
+    if let Ok(n) = list_deposit(deposit, &mut out) {
         io::write_all(1, &out[..n]);
     }
-    io::write_all(1, &end);
 }
 
-fn is_size(answer: Measure, size: usize) -> bool {
-    match answer {
-        Measure::Size(n) => n == size,
-        Measure::No(_) => false,
+fn write_again_line(bytes: &[u8]) {
+    let mut digits = [0u8; 2 * RECORD_MOST + 1];
+    if bytes.len() > RECORD_MOST {
+        return;
+    }
+    let n = put_hex(bytes, &mut digits, 0);
+    if let Some(text) = digits.get(..n) {
+        io::write_all(1, b"again ");
+        io::write_all(1, text);
+        io::write_all(1, b"\n");
     }
 }
 
 // Whether a record of that size is read whole where it is all there is, and is Trailing where more stands after it.
 fn whole_agrees(kind: u8, bytes: &[u8], size: usize) -> bool {
     match whole_end(kind, bytes, 0) {
-        Measure::Size(end) => end == size && end == bytes.len(),
-        Measure::No(f) => {
-            let fault = f.fault;
-            fault.number() == 11 && f.place == size && size < bytes.len()
+        Ok(end) => end == size && end == bytes.len(),
+        Err(f) => f.fault == Fault::Trailing && f.place == size && size < bytes.len(),
+    }
+}
+
+// The line `again`, if there is a record and all the calls agree on its size. It is measured, and each writer is lent just as many bytes;
+// those of the line are the ones that were written and read again.
+fn write_again(kind: u8, bytes: &[u8]) -> Option<()> {
+    let mut copied = [0u8; RECORD_MOST];
+    let mut written = [0u8; RECORD_MOST];
+    let size = measure(kind, bytes).ok()?;
+    let copied = copied.get_mut(..size)?;
+    let written = written.get_mut(..size)?;
+    if copy(kind, bytes, copied) == Ok(size)
+        && again(kind, bytes, written) == Ok(size)
+        && whole_agrees(kind, bytes, size)
+    {
+        write_again_line(written);
+    }
+    Some(())
+}
+
+fn answer(deposit: &[u8]) {
+    write_listing(deposit);
+    if let [kind, bytes @ ..] = deposit {
+        if bytes.len() <= RECORD_MOST {
+            write_again(*kind, bytes);
         }
     }
 }
 
-// The line `again`, if all the calls agree on the record's size. It is measured, and each writer is lent just as many bytes; those of the
-// line are the ones that were written and read again.
-fn write_again(kind: u8, bytes: &[u8], copied: &mut [u8], written: &mut [u8], out: &mut [u8]) {
-    let size = match measure(kind, bytes) {
-        Measure::Size(n) => n,
-        Measure::No(_) => return,
-    };
-    if size > copied.len() {
-        return;
-    }
-    if size > written.len() {
-        return;
-    }
-    if !is_size(copy(kind, bytes, &mut copied[..size]), size) {
-        return;
-    }
-    if !is_size(again(kind, bytes, &mut written[..size]), size) {
-        return;
-    }
-    if whole_agrees(kind, bytes, size) {
-        write_again_line(&written[..size], out);
-    }
-}
-
-fn answer(deposit: &[u8], copied: &mut [u8], written: &mut [u8], out: &mut [u8]) {
-    write_listing(deposit, out);
-    if deposit.len() > 0 {
-        if deposit.len() <= 4097 {
-            let kind = deposit[0];
-            write_again(kind, &deposit[1..], copied, written, out);
-        }
-    }
-}
-
-// The length of the next deposit; one that no deposit has stands for the input's end.
-fn next_length() -> usize {
+// Answers the next deposit; None at the end of the input, and where a deposit is cut short or longer than any is.
+fn answer_next() -> Option<()> {
     let mut head = [0u8; 2];
+    let mut space = [0u8; DEPOSIT_MOST];
     let taken = io::read_full(0, &mut head);
-    match uint16(&head[..taken], 0) {
-        Uint16Read::Found(n, _) => n as usize,
-        Uint16Read::No(_) => 65536,
+    let (length, _) = u16::unmarshal(&head[..taken], 0).ok()?;
+    let deposit = space.get_mut(..usize::from(length))?;
+    if io::read_full(0, deposit) < deposit.len() {
+        return None;
     }
+    answer(deposit);
+    Some(())
 }
 
-// Answers a deposit of that length, if space has room for one and so many bytes come.
-fn answer_one(length: usize, space: &mut [u8]) -> bool {
-    let mut copied = [0u8; 4096];
-    let mut written = [0u8; 4096];
-    let mut out = [0u8; LISTING_ROOM];
-    if length > space.len() {
-        return false;
-    }
-    let taken = io::read_full(0, &mut space[..length]);
-    if taken < length {
-        return false;
-    }
-    answer(&space[..length], &mut copied, &mut written, &mut out);
-    true
-}
-
-fn answer_next() -> bool {
-    let mut space = [0u8; 4098];
-    answer_one(next_length(), &mut space)
-}
-
-// A proved loop has to end, and nothing says that an input does: this one counts down from a number that no run uses up.
+// A proved loop has to end, and nothing says that an input does: this one has more turns than any run uses up.
 fn main() {
-    let mut turns = u64::MAX;
-    while turns > 0 && answer_next() {
-        turns -= 1;
+    for _ in 0..u64::MAX {
+        if answer_next().is_none() {
+            return;
+        }
     }
 }

@@ -6,9 +6,9 @@
 ghost use Rattle.std.specs.Prelude.{◌≡◌};
 ghost use Rattle.faults.specs.Faults.{paper, refusal, placed_at, short, unknown_code, no_such_arm, too_long, too_many_items, bad_value, mismatch, bad_span, no_room, no_field, trailing, bad_kind, oversize};
 
-#[derive(Clone, Copy)]
+#[derive(Clone, Copy, Debug, PartialEq, Eq)]
 pub enum Fault {
-    Short,
+    Short = 1,
     UnknownCode,
     NoArm,
     TooLong,
@@ -28,25 +28,11 @@ impl Fault {
     pub fn number(self) -> u8
         ensures { result ≡ (paper self).number }
     {
-        match self {
-            Fault::Short => 1,
-            Fault::UnknownCode => 2,
-            Fault::NoArm => 3,
-            Fault::TooLong => 4,
-            Fault::TooManyItems => 5,
-            Fault::BadValue => 6,
-            Fault::Mismatch => 7,
-            Fault::BadSpan => 8,
-            Fault::NoRoom => 9,
-            Fault::NoField => 10,
-            Fault::Trailing => 11,
-            Fault::BadKind => 12,
-            Fault::Oversize => 13,
-        }
+        self as u8
     }
 }
 
-#[derive(Clone, Copy)]
+#[derive(Clone, Copy, Debug, PartialEq, Eq)]
 pub struct Refusal {
     pub fault: Fault,
     pub place: usize,
@@ -61,7 +47,7 @@ impl Refusal {
     {
         Refusal {
             fault: Fault::Short,
-            place: place,
+            place,
             value: needed as u64,
             had: there,
         }
@@ -72,9 +58,9 @@ impl Refusal {
         ensures { result ≡ refusal fault place value 0 }
     {
         Refusal {
-            fault: fault,
-            place: place,
-            value: value,
+            fault,
+            place,
+            value,
             had: 0,
         }
     }
@@ -167,14 +153,6 @@ impl Refusal {
     pub fn placed_at(self, place: usize) -> Refusal
         ensures { result ≡ placed_at place self }
     {
-        let fault = self.fault;
-        let value = self.value;
-        let had = self.had;
-        Refusal {
-            fault: fault,
-            place: place,
-            value: value,
-            had: had,
-        }
+        Refusal { place, ..self }
     }
 }

@@ -5,8 +5,7 @@ use mathlib.Core.Path.{refl}
 use mathlib.Core.Bool.{Bool, true, false, cond}
 use mathlib.Core.List.{List, [], ◌∷◌}
 use lib.Dec.{eqb}
-use Rattle.wire.specs.declared.choice.Choice.{Choice}
-use Rattle.wire.specs.declared.choice.Choice.TheVariants.{Nothing, The}
+use Rattle.std.specs.Prelude.{None, Option, Some}
 use Rattle.wire.specs.Layout.{Rule, Layout, stop, no_arm, arm, number, plain, one, free}
 use Rattle.wire.specs.Sizes.{AtMost, Reaches}
 use Rattle.wire.specs.Unions.{Row, body_of, union}
@@ -38,9 +37,9 @@ module _ (P : Layout → Type 0) (none : (v : ℕ) → P (no_arm v)) (some : (v 
   body_holds [] h t = none t
   body_holds (r ∷ rs) h t = either (eqb t r.chooses) r.holds (body_of rs t) h.0 (body_holds rs h.1 t)
 
-  pub union_holds : (rs : List Row) → Holds P rs → (c : Choice) (v : ℕ) → P (union c (λ t. body_of rs t) v)
-  union_holds rs h Nothing v = none v
-  union_holds rs h (The t) v = some v t (body_of rs t) (body_holds rs h t)
+  pub union_holds : (rs : List Row) → Holds P rs → (c : Option ℕ) (v : ℕ) → P (union c (λ t. body_of rs t) v)
+  union_holds rs h None v = none v
+  union_holds rs h (Some t) v = some v t (body_of rs t) (body_holds rs h t)
 
   -- and of digests, if of as many bytes as a digest has, and of none
   pub digest_holds : ((n : ℕ) → n ≤ 64 → P (plain n stop)) → P stop → (v : ℕ) → P (tpmu_ha v)
@@ -61,7 +60,7 @@ module _ (P : Layout → Type 0) (none : (v : ℕ) → P (no_arm v)) (some : (v 
 abbrev pub RowsMost : List Row → ℕ → Type 0
 RowsMost rs m = Holds (λ l. AtMost l m) rs
 
-pub union_most : (m : ℕ) (rs : List Row) → RowsMost rs m → (c : Choice) (v : ℕ) → AtMost (union c (λ t. body_of rs t) v) m
+pub union_most : (m : ℕ) (rs : List Row) → RowsMost rs m → (c : Option ℕ) (v : ℕ) → AtMost (union c (λ t. body_of rs t) v) m
 union_most m rs h c v = union_holds (λ l. AtMost l m) (λ v. no_arm_most v m) (λ v t l p. arm_most v t p) rs h c v
 
 -- a bound on a number's layout, from a bound on what follows every number

@@ -1,16 +1,21 @@
 -- The kinds by their numbers, and numbers that are no kind's. Assumes nothing.
 use Prim.Native.Nat.{ℕ, zero, suc, ◌<◌}
 use native.Mathlib.Omega.{arith}
-use mathlib.Core.Path.{◌≡◌, refl, ap, ◌∙◌}
+use mathlib.Core.Path.{◌≡◌, refl, sym, ap, ◌∙◌}
 use mathlib.Core.Bool.{Bool, true, false, ◌&&◌}
 use mathlib.Core.List.{List, [], ◌∷◌}
 use lib.ListN.{length}
 use lib.Dec.{leb, ltb}
 use borrow.Author.Tests.{lt-leb, ltb-true}
+use Rattle.std.specs.Prelude.{Result, Ok, Err, is_ok}
+use Rattle.faults.specs.declared.Refusal.{Refusal}
 use Rattle.faults.specs.Faults.{bad_kind}
 use Rattle.wire.specs.Records.{Ans, refused, Parsed}
 use Rattle.wire.specs.Reading.{read, end_of}
 use Rattle.wire.proofs.Search.{known}
+use Rattle.format.specs.declared.kind.Kind.{Kind}
+use Rattle.format.specs.declared.kind.Kind.TheVariants.{TpmtHa, TpmtSymDef, TpmtKdfScheme, TpmtKeyedhashScheme, TpmtSigScheme, TpmtRsaScheme, TpmtEccScheme, TpmtRsaDecrypt, TpmtPublicParms, TpmtSignature, TpmtPublic, TpmtSensitive, TpmsAttest, TpmlPcrSelection, TpmsCapabilityData, TpmtNvPublic2, TpmtTkCreation, TpmtTkVerified, TpmtTkHashcheck, TpmtTkAuth}
+use Rattle.format.specs.Numbers.{number_of, Decodes}
 use Rattle.format.specs.Kinds.{kinds, is_kind, layout_of, read_kind}
 use Rattle.codes.proofs.Choices.{Unmatched}
 pub use borrow.Author.Rules.{rules}
@@ -67,3 +72,38 @@ ending ans q p r = known (λ x. end_of (ans x)) q (ap end_of p) r
 -- the number is j, and j's reader answered so
 pub as_kind : {j k : ℕ} {z : Ans ℕ} (src : List ℕ) (at : ℕ) → k ≡ j → is_kind j ≡ true → z ≡ end_of (read (layout_of j) src at) → z ≡ end_of (read_kind k src at)
 as_kind {j} src at e h p = p ∙ ap end_of (of_kind j src at e h)
+
+-- ---- the kinds of the code
+
+-- each has a number that is a kind's
+pub numbered_is_kind : (k : Kind) → is_kind (number_of k) ≡ true
+unfolding kinds
+numbered_is_kind TpmtHa = refl
+numbered_is_kind TpmtSymDef = refl
+numbered_is_kind TpmtKdfScheme = refl
+numbered_is_kind TpmtKeyedhashScheme = refl
+numbered_is_kind TpmtSigScheme = refl
+numbered_is_kind TpmtRsaScheme = refl
+numbered_is_kind TpmtEccScheme = refl
+numbered_is_kind TpmtRsaDecrypt = refl
+numbered_is_kind TpmtPublicParms = refl
+numbered_is_kind TpmtSignature = refl
+numbered_is_kind TpmtPublic = refl
+numbered_is_kind TpmtSensitive = refl
+numbered_is_kind TpmsAttest = refl
+numbered_is_kind TpmlPcrSelection = refl
+numbered_is_kind TpmsCapabilityData = refl
+numbered_is_kind TpmtNvPublic2 = refl
+numbered_is_kind TpmtTkCreation = refl
+numbered_is_kind TpmtTkVerified = refl
+numbered_is_kind TpmtTkHashcheck = refl
+numbered_is_kind TpmtTkAuth = refl
+
+-- and the number that is decoded is one exactly if there is a kind
+pub decoded_is_kind : (n : ℕ) (r : Result Kind Refusal) → Decodes n r → is_ok r ≡ is_kind n
+decoded_is_kind n (Ok k) e = rw (← e) (sym (numbered_is_kind k))
+decoded_is_kind n (Err f) (told, none) = sym none
+
+-- the number of a kind that was decoded is a kind's
+pub decoded_kind : (n : ℕ) (k : Kind) → number_of k ≡ n → is_kind n ≡ true
+decoded_kind n k e = rw (← e) (numbered_is_kind k)

@@ -1,7 +1,6 @@
 -- The kinds as layouts: a line a field, in wire order, with Part 2's names; and one table a union. Assumes nothing.
-use Rattle.std.specs.Prelude.{ℕ, zero, suc, Bool, ◌&&◌, cond, List, [], ◌∷◌, length, get_or, leb, ltb}
+use Rattle.std.specs.Prelude.{ℕ, zero, suc, Bool, ◌&&◌, cond, List, [], ◌∷◌, length, get_or, leb, ltb, Option}
 use Rattle.faults.specs.Faults.{bad_kind}
-use Rattle.wire.specs.declared.choice.Choice.{Choice}
 use Rattle.wire.specs.Layout.{Rule, Layout, stop, no_arm, number, buffer, counted, one, free, ◌then◌}
 use Rattle.wire.specs.Records.{Parsed, refused}
 use Rattle.wire.specs.Reading.{Reader, read}
@@ -86,7 +85,7 @@ tpmu_asym_scheme_table =
     ∷ row ecmqv hash tpms_scheme_hash
     ∷ []
 
-unfoldable pub tpmu_asym_scheme_arm : ℕ → Choice
+unfoldable pub tpmu_asym_scheme_arm : ℕ → Option ℕ
 tpmu_asym_scheme_arm v = arm_of tpmu_asym_scheme_table v
 
 abbrev pub tpmu_asym_scheme_body : ℕ → Layout
@@ -108,7 +107,7 @@ tpmu_sig_scheme_table =
     ∷ own null stop
     ∷ []
 
-unfoldable pub tpmu_sig_scheme_arm : ℕ → Choice
+unfoldable pub tpmu_sig_scheme_arm : ℕ → Option ℕ
 tpmu_sig_scheme_arm v = arm_of tpmu_sig_scheme_table v
 
 abbrev pub tpmu_sig_scheme_body : ℕ → Layout
@@ -125,7 +124,7 @@ tpmu_keyedhash_scheme_table =
     ∷ own null stop
     ∷ []
 
-unfoldable pub tpmu_keyedhash_scheme_arm : ℕ → Choice
+unfoldable pub tpmu_keyedhash_scheme_arm : ℕ → Option ℕ
 tpmu_keyedhash_scheme_arm v = arm_of tpmu_keyedhash_scheme_table v
 
 abbrev pub tpmu_keyedhash_scheme_body : ℕ → Layout
@@ -144,7 +143,7 @@ tpmu_kdf_scheme_table =
     ∷ own null stop
     ∷ []
 
-unfoldable pub tpmu_kdf_scheme_arm : ℕ → Choice
+unfoldable pub tpmu_kdf_scheme_arm : ℕ → Option ℕ
 tpmu_kdf_scheme_arm v = arm_of tpmu_kdf_scheme_table v
 
 abbrev pub tpmu_kdf_scheme_body : ℕ → Layout
@@ -163,7 +162,7 @@ tpmu_sym_key_bits_table =
     ∷ own null stop
     ∷ []
 
-unfoldable pub tpmu_sym_key_bits_arm : ℕ → Choice
+unfoldable pub tpmu_sym_key_bits_arm : ℕ → Option ℕ
 tpmu_sym_key_bits_arm v = arm_of tpmu_sym_key_bits_table v
 
 abbrev pub tpmu_sym_key_bits_body : ℕ → Layout
@@ -182,7 +181,7 @@ tpmu_sym_mode_table =
     ∷ own null stop
     ∷ []
 
-unfoldable pub tpmu_sym_mode_arm : ℕ → Choice
+unfoldable pub tpmu_sym_mode_arm : ℕ → Option ℕ
 tpmu_sym_mode_arm v = arm_of tpmu_sym_mode_table v
 
 abbrev pub tpmu_sym_mode_body : ℕ → Layout
@@ -243,7 +242,7 @@ tpmu_public_parms_table =
     ∷ own null stop
     ∷ []
 
-unfoldable pub tpmu_public_parms_arm : ℕ → Choice
+unfoldable pub tpmu_public_parms_arm : ℕ → Option ℕ
 tpmu_public_parms_arm v = arm_of tpmu_public_parms_table v
 
 abbrev pub tpmu_public_parms_body : ℕ → Layout
@@ -266,7 +265,7 @@ tpmu_public_id_table =
     ∷ own null stop
     ∷ []
 
-unfoldable pub tpmu_public_id_arm : ℕ → Choice
+unfoldable pub tpmu_public_id_arm : ℕ → Option ℕ
 tpmu_public_id_arm v = arm_of tpmu_public_id_table v
 
 abbrev pub tpmu_public_id_body : ℕ → Layout
@@ -284,7 +283,7 @@ tpmu_sensitive_composite_table =
     ∷ own sym_cipher (sym_key stop)
     ∷ []
 
-unfoldable pub tpmu_sensitive_composite_arm : ℕ → Choice
+unfoldable pub tpmu_sensitive_composite_arm : ℕ → Option ℕ
 tpmu_sensitive_composite_arm v = arm_of tpmu_sensitive_composite_table v
 
 abbrev pub tpmu_sensitive_composite_body : ℕ → Layout
@@ -314,7 +313,7 @@ tpmu_signature_table =
     ∷ own null stop
     ∷ []
 
-unfoldable pub tpmu_signature_arm : ℕ → Choice
+unfoldable pub tpmu_signature_arm : ℕ → Option ℕ
 tpmu_signature_arm v = arm_of tpmu_signature_table v
 
 abbrev pub tpmu_signature_body : ℕ → Layout
@@ -460,7 +459,7 @@ tpmu_attest_table =
     ∷ own attest_nv_digest tpms_nv_digest_certify_info
     ∷ []
 
-unfoldable pub tpmu_attest_arm : ℕ → Choice
+unfoldable pub tpmu_attest_arm : ℕ → Option ℕ
 tpmu_attest_arm v = arm_of tpmu_attest_table v
 
 abbrev pub tpmu_attest_body : ℕ → Layout
@@ -497,7 +496,7 @@ tpmu_capabilities_table =
     ∷ own cap_act (tpml ActData)
     ∷ []
 
-unfoldable pub tpmu_capabilities_arm : ℕ → Choice
+unfoldable pub tpmu_capabilities_arm : ℕ → Option ℕ
 tpmu_capabilities_arm v = arm_of tpmu_capabilities_table v
 
 abbrev pub tpmu_capabilities_body : ℕ → Layout
@@ -540,7 +539,7 @@ tpmu_nv_public2_table =
     ∷ own ht_permanent_nv tpms_nv_public
     ∷ []
 
-unfoldable pub tpmu_nv_public2_arm : ℕ → Choice
+unfoldable pub tpmu_nv_public2_arm : ℕ → Option ℕ
 tpmu_nv_public2_arm v = arm_of tpmu_nv_public2_table v
 
 abbrev pub tpmu_nv_public2_body : ℕ → Layout

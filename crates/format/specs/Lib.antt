@@ -1,4 +1,5 @@
 pub mod Kinds
+pub mod Numbers
 pub mod Refused
 pub mod Editions
 pub mod EditionKinds

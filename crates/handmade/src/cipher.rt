@@ -1,36 +1,8 @@
 // Cases of kind 2: a cipher, its key bits and its mode. It has no byte field, so there is no source.
-use crate::said::{SPACE, UNTOUCHED, one_less, say_measured, say_written};
+use crate::tried::try_writing;
 use ciphers::tpmt::TpmtSymDef;
 use ciphers::tpmu::{TpmuSymKeyBits, TpmuSymMode};
 use codes::TpmAlgId;
-use wire::measure::Measure;
-
-fn sym_def_lent(case: u64, x: TpmtSymDef, src: &[u8], room: usize, space: &mut [u8]) {
-    if room > space.len() {
-        return;
-    }
-    let written = x.marshal(src, &mut space[..room]);
-    say_written(case, room, written, space);
-}
-
-fn sym_def_into(case: u64, x: TpmtSymDef, src: &[u8], room: usize) {
-    let mut space = [UNTOUCHED; SPACE];
-    sym_def_lent(case, x, src, room, &mut space);
-}
-
-fn sym_def_tried(case: u64, x: TpmtSymDef, src: &[u8]) {
-    let measured = x.measure(src);
-    say_measured(case, measured);
-    sym_def_into(case, x, src, SPACE);
-    match measured {
-        Measure::Size(n) => {
-            sym_def_into(case, x, src, n);
-            sym_def_into(case, x, src, one_less(n));
-        }
-        Measure::No(_) => {}
-    }
-    sym_def_into(case, x, src, 0);
-}
 
 fn cipher(case: u64, algorithm: TpmAlgId, key_bits: TpmuSymKeyBits, mode: TpmuSymMode) {
     let x = TpmtSymDef {
@@ -38,7 +10,7 @@ fn cipher(case: u64, algorithm: TpmAlgId, key_bits: TpmuSymKeyBits, mode: TpmuSy
         key_bits,
         mode,
     };
-    sym_def_tried(case, x, b"");
+    try_writing(case, x, b"");
 }
 
 pub fn ciphers() {

@@ -1,40 +1,12 @@
 // Cases of kind 1: an algorithm and a digest.
-use crate::said::{SPACE, UNTOUCHED, one_less, say_measured, say_written};
+use crate::tried::try_writing;
 use ciphers::tpmt::TpmtHa;
 use ciphers::tpmu::TpmuHa;
 use codes::TpmAlgId;
-use wire::measure::Measure;
 use wire::span::Span;
 
-fn ha_lent(case: u64, x: TpmtHa, src: &[u8], room: usize, space: &mut [u8]) {
-    if room > space.len() {
-        return;
-    }
-    let written = x.marshal(src, &mut space[..room]);
-    say_written(case, room, written, space);
-}
-
-fn ha_into(case: u64, x: TpmtHa, src: &[u8], room: usize) {
-    let mut space = [UNTOUCHED; SPACE];
-    ha_lent(case, x, src, room, &mut space);
-}
-
-fn ha_tried(case: u64, x: TpmtHa, src: &[u8]) {
-    let measured = x.measure(src);
-    say_measured(case, measured);
-    ha_into(case, x, src, SPACE);
-    match measured {
-        Measure::Size(n) => {
-            ha_into(case, x, src, n);
-            ha_into(case, x, src, one_less(n));
-        }
-        Measure::No(_) => {}
-    }
-    ha_into(case, x, src, 0);
-}
-
 fn ha(case: u64, hash_alg: TpmAlgId, digest: TpmuHa, src: &[u8]) {
-    ha_tried(case, TpmtHa { hash_alg, digest }, src);
+    try_writing(case, TpmtHa { hash_alg, digest }, src);
 }
 
 pub fn digests() {

@@ -1,41 +1,13 @@
 // Cases of kind 14: a list.
-use crate::said::{SPACE, UNTOUCHED, one_less, say_measured, say_written};
+use crate::tried::try_writing;
 use attest::list::TpmlPcrSelection;
-use wire::measure::Measure;
 use wire::span::Span;
-
-fn list_lent(case: u64, x: TpmlPcrSelection, src: &[u8], room: usize, space: &mut [u8]) {
-    if room > space.len() {
-        return;
-    }
-    let written = x.marshal(src, &mut space[..room]);
-    say_written(case, room, written, space);
-}
-
-fn list_into(case: u64, x: TpmlPcrSelection, src: &[u8], room: usize) {
-    let mut space = [UNTOUCHED; SPACE];
-    list_lent(case, x, src, room, &mut space);
-}
-
-fn list_tried(case: u64, x: TpmlPcrSelection, src: &[u8]) {
-    let measured = x.measure(src);
-    say_measured(case, measured);
-    list_into(case, x, src, SPACE);
-    match measured {
-        Measure::Size(n) => {
-            list_into(case, x, src, n);
-            list_into(case, x, src, one_less(n));
-        }
-        Measure::No(_) => {}
-    }
-    list_into(case, x, src, 0);
-}
 
 fn list(case: u64, start: usize, len: usize, src: &[u8]) {
     let x = TpmlPcrSelection {
         items: Span::new(start, len),
     };
-    list_tried(case, x, src);
+    try_writing(case, x, src);
 }
 
 pub fn lists() {

@@ -7,6 +7,7 @@ mod digest;
 mod list;
 mod quote;
 mod said;
+mod tried;
 
 use crate::cipher::ciphers;
 use crate::digest::digests;

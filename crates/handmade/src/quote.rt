@@ -1,45 +1,17 @@
 // Cases of kind 13: an attestation that holds a quote.
-use crate::said::{SPACE, UNTOUCHED, one_less, say_measured, say_written};
+use crate::tried::try_writing;
 use attest::attestation::TpmsAttest;
 use attest::list::TpmlPcrSelection;
 use attest::tpms::{TpmsClockInfo, TpmsQuoteInfo};
 use attest::tpmu::TpmuAttest;
 use codes::TpmSt;
-use wire::measure::Measure;
 use wire::span::Span;
-
-fn attest_lent(case: u64, x: TpmsAttest, src: &[u8], room: usize, space: &mut [u8]) {
-    if room > space.len() {
-        return;
-    }
-    let written = x.marshal(src, &mut space[..room]);
-    say_written(case, room, written, space);
-}
-
-fn attest_into(case: u64, x: TpmsAttest, src: &[u8], room: usize) {
-    let mut space = [UNTOUCHED; SPACE];
-    attest_lent(case, x, src, room, &mut space);
-}
-
-fn attest_tried(case: u64, x: TpmsAttest, src: &[u8]) {
-    let measured = x.measure(src);
-    say_measured(case, measured);
-    attest_into(case, x, src, SPACE);
-    match measured {
-        Measure::Size(n) => {
-            attest_into(case, x, src, n);
-            attest_into(case, x, src, one_less(n));
-        }
-        Measure::No(_) => {}
-    }
-    attest_into(case, x, src, 0);
-}
 
 // What differs from case to case.
 #[derive(Clone, Copy)]
 struct Changes {
     magic: u32,
-    attest_type: u16,
+    attest_type: TpmSt,
     signer: Span,
     safe: u8,
     select: Span,
@@ -47,13 +19,10 @@ struct Changes {
 }
 
 fn quote(case: u64, q: Changes, src: &[u8]) {
-    let signer = q.signer;
-    let select = q.select;
-    let digest = q.digest;
     let x = TpmsAttest {
         magic: q.magic,
-        attest_type: TpmSt(q.attest_type),
-        qualified_signer: signer,
+        attest_type: q.attest_type,
+        qualified_signer: q.signer,
         extra_data: Span::new(0, 0),
         clock_info: TpmsClockInfo {
             clock: 1,
@@ -63,18 +32,18 @@ fn quote(case: u64, q: Changes, src: &[u8]) {
         },
         firmware_version: 4,
         attested: TpmuAttest::Quote(TpmsQuoteInfo {
-            pcr_select: TpmlPcrSelection { items: select },
-            pcr_digest: digest,
+            pcr_select: TpmlPcrSelection { items: q.select },
+            pcr_digest: q.digest,
         }),
     };
-    attest_tried(case, x, src);
+    try_writing(case, x, src);
 }
 
 // One that is legal, over a source of four bytes or more that begins with an empty list.
 fn legal() -> Changes {
     Changes {
         magic: 0xff544347,
-        attest_type: 0x8018,
+        attest_type: TpmSt::AttestQuote,
         signer: Span::new(0, 0),
         safe: 1,
         select: Span::new(0, 4),
@@ -84,41 +53,35 @@ fn legal() -> Changes {
 
 pub fn codes_and_values() {
     let empty = [0, 0, 0, 0];
+    let magic = 0xff544348;
+    let signer = Span::new(0, 67);
+    let unlisted = Changes {
+        attest_type: TpmSt(0x8013),
+        ..legal()
+    };
+    let another = Changes {
+        attest_type: TpmSt::AttestCertify,
+        select: Span::new(9, 9),
+        ..legal()
+    };
     quote(19, legal(), &empty);
-    let mut q = legal();
-    q.magic = 0xff544348;
-    quote(20, q, &empty);
-    q = legal();
-    q.attest_type = 0x8013;
-    quote(21, q, &empty);
-    q = legal();
-    q.safe = 2;
-    quote(22, q, &empty);
-    q = legal();
-    q.attest_type = 0x8017;
-    q.select = Span::new(9, 9);
-    quote(23, q, &empty);
-    q = legal();
-    q.magic = 0xff544348;
-    q.attest_type = 0x8013;
-    quote(24, q, &empty);
-    q = legal();
-    q.attest_type = 0x8013;
-    q.signer = Span::new(0, 67);
-    quote(25, q, &empty);
+    quote(20, Changes { magic, ..legal() }, &empty);
+    quote(21, unlisted, &empty);
+    quote(22, Changes { safe: 2, ..legal() }, &empty);
+    quote(23, another, &empty);
+    quote(24, Changes { magic, ..unlisted }, &empty);
+    quote(25, Changes { signer, ..unlisted }, &empty);
 }
 
 pub fn spans() {
-    let mut q = legal();
-    q.signer = Span::new(0, 67);
-    quote(26, q, &[0; 67]);
-    quote(27, q, &[0; 66]);
-    q = legal();
-    q.digest = Span::new(1, 4);
-    quote(28, q, &[0, 0, 0, 0]);
-    q = legal();
-    q.select = Span::new(0, 7);
-    quote(29, q, &[0, 0, 0, 1, 0, 0x0b, 5]);
-    q.select = Span::new(0, 6);
-    quote(30, q, &[0, 0, 0, 1, 0, 0x0b, 5]);
+    let signer = Span::new(0, 67);
+    quote(26, Changes { signer, ..legal() }, &[0; 67]);
+    quote(27, Changes { signer, ..legal() }, &[0; 66]);
+    let digest = Span::new(1, 4);
+    quote(28, Changes { digest, ..legal() }, &[0, 0, 0, 0]);
+    let list = [0, 0, 0, 1, 0, 0x0b, 5];
+    let select = Span::new(0, 7);
+    quote(29, Changes { select, ..legal() }, &list);
+    let select = Span::new(0, 6);
+    quote(30, Changes { select, ..legal() }, &list);
 }

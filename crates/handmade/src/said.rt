@@ -1,7 +1,6 @@
 // What was answered, in lines that begin with the number of the case.
-use faults::Refusal;
+use faults::{Fault, Refusal};
 use text::put::put_hex;
-use wire::measure::Measure;
 
 // How many bytes there are to write to; no record of a case that is written has so many.
 pub const SPACE: usize = 64;
@@ -14,22 +13,21 @@ fn say(word: &[u8], n: u64) {
     io::print_decimal(1, n);
 }
 
-fn say_answer(answer: Measure) {
+fn say_answer(answer: Result<usize, Refusal>) {
     match answer {
-        Measure::Size(n) => say(b" size ", n as u64),
-        Measure::No(f) => {
-            let fault = f.fault;
-            say(b" refused ", fault.number() as u64);
+        Ok(n) => say(b" size ", n as u64),
+        Err(f) => {
+            say(b" refused ", u64::from(f.fault.number()));
             say(b" at ", f.place as u64);
             say(b" value ", f.value);
-            if fault.number() == 1 {
+            if f.fault == Fault::Short {
                 say(b" had ", f.had as u64);
             }
         }
     }
 }
 
-pub fn say_measured(case: u64, answer: Measure) {
+pub fn say_measured(case: u64, answer: Result<usize, Refusal>) {
     io::print_decimal(1, case);
     io::write_all(1, b" measured");
     say_answer(answer);
@@ -38,54 +36,30 @@ pub fn say_measured(case: u64, answer: Measure) {
 
 // The bytes that were written, in hexadecimal.
 fn say_bytes(bytes: &[u8]) {
-    let mut digits = [0u8; 129];
+    let mut digits = [0u8; 2 * SPACE + 1];
     if bytes.len() > SPACE {
         return;
     }
     let n = put_hex(bytes, &mut digits, 0);
-    io::write_all(1, b" ");
-    if n <= 129 {
-        io::write_all(1, &digits[..n]);
+    if let Some(text) = digits.get(..n) {
+        io::write_all(1, b" ");
+        io::write_all(1, text);
     }
-}
-
-// Whether all bytes from a place on are as they were.
-fn is_untouched(out: &[u8], from: usize) -> bool {
-    let mut i = from;
-    while i < out.len() {
-        if out[i] != UNTOUCHED {
-            return false;
-        }
-        i += 1;
-    }
-    true
 }
 
 // What a writer answered that was lent so many bytes of the space, and what it wrote there.
-pub fn say_written(case: u64, room: usize, answer: Measure, space: &[u8]) {
-    let mut kept = 0;
+pub fn say_written(case: u64, room: usize, answer: Result<usize, Refusal>, space: &[u8]) {
     io::print_decimal(1, case);
     say(b" room ", room as u64);
     say_answer(answer);
-    match answer {
-        Measure::Size(n) => {
-            if n <= space.len() {
-                say_bytes(&space[..n]);
-            }
-            kept = n;
+    let kept = answer.unwrap_or(0);
+    if let Some((put, rest)) = space.split_at_checked(kept) {
+        if answer.is_ok() {
+            say_bytes(put);
         }
-        Measure::No(_) => {}
-    }
-    if !is_untouched(space, kept) {
-        io::write_all(1, b" changed");
+        if !rest.iter().all(|b| *b == UNTOUCHED) {
+            io::write_all(1, b" changed");
+        }
     }
     io::write_all(1, b"\n");
-}
-
-// The room that is one byte smaller.
-pub fn one_less(n: usize) -> usize {
-    if n > 0 {
-        return n - 1;
-    }
-    0
 }

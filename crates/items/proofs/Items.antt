@@ -1,23 +1,20 @@
--- The items of lists: where one ends, and its lines. Assumes nothing.
+-- The items of lists: their lines, and that their bytes lie in the list. Assumes nothing.
 use Prim.Native.Nat.{ℕ, ◌+◌, ◌≤◌}
 use native.Mathlib.Omega.{arith}
 use mathlib.Core.Path.{◌≡◌, refl, sym, ap, ◌∙◌}
 use mathlib.Core.List.{List, [], ◌∷◌}
 use lib.ListN.{length}
 use borrow.Author.Tests.{leb-true}
-use Rattle.faults.specs.declared.Refusal.{Refusal}
-use Rattle.wire.specs.declared.choice.Choice.{Choice}
-use Rattle.wire.specs.declared.choice.Choice.TheVariants.{Nothing, The}
+use Rattle.std.specs.Prelude.{None, Option, Some}
 use Rattle.wire.specs.declared.span.Span.{Span}
 use Rattle.wire.specs.Answers.{start_of, len_of, span_part}
 use Rattle.wire.specs.Bytes.{Bytes}
 use Rattle.wire.specs.Layout.{Rule, free, length_to, Layout, stop, number, plain, buffer}
-use Rattle.wire.specs.Lines.{line, a_code, a_number, say_number, span_line, lines}
-use Rattle.wire.specs.Records.{Part, num, tag, Ans, found, refused, Parsed, parsed}
+use Rattle.wire.specs.Lines.{line, a_number, say_number, span_line, lines}
+use Rattle.wire.specs.Records.{Part, num, tag, found, Parsed, parsed}
 use Rattle.wire.specs.Reading.{piece, field, read, end_of}
 use Rattle.wire.specs.Parts.{on_number, on_arm, on_span}
 use Rattle.wire.specs.Unions.{union}
-use Rattle.wire.proofs.Rest.{told}
 use Rattle.wire.proofs.Steps.{found_refused, found_same, parsed_same, next_found, field_found}
 use Rattle.wire.proofs.Sound.{read_sound}
 use Rattle.wire.proofs.Stand.{stands_left}
@@ -31,51 +28,30 @@ use Rattle.ciphers.specs.declared.tpmu.TpmuHa.{TpmuHa}
 use Rattle.ciphers.specs.Parts.{tpmu_ha_parts, tpmt_ha_parts}
 use Rattle.steps.specs.Walks.{Here, put_line, put_lines}
 use Rattle.items.specs.declared.tpms.TpmsPcrSelection.{TpmsPcrSelection}
-use Rattle.items.specs.declared.tpms.TpmsPcrSelectionRead.{TpmsPcrSelectionRead}
 use Rattle.items.specs.declared.tpms.TpmsTaggedPolicy.{TpmsTaggedPolicy}
-use Rattle.items.specs.Items.{tpms_pcr_selection_answer, tpms_tagged_policy_parts, ItemLined}
-
--- ---- by the list
-
-pub end_of_list : (j k : ListOf) {z : Ans ℕ} (src : List ℕ) (at : ℕ) → k ≡ j → z ≡ end_of (read (item_layout j) src at) → z ≡ end_of (read (item_layout k) src at)
-end_of_list j k src at e p = rw e p
-
-pub lines_of_list : (j k : ListOf) (xs : List ℕ) (e at : ℕ) (a b : Here) (f : ℕ) → k ≡ j → ItemLined (item_layout j) xs e at a b f → ItemLined (item_layout k) xs e at a b f
-lines_of_list j k xs e at a b f same p = rw same p
+use Rattle.items.specs.Items.{HasParts}
+use Rattle.items.specs.Parts.{tpms_pcr_selection_parts, tpms_tagged_policy_parts}
 
 -- ---- lines, one behind the other
 
 -- the line of a number, and then those of the rest
-pub by_line : (w : ℕ) (r : Rule) (k : ℕ → Layout) (n : ℕ) (ps : List Part) (xs : List ℕ) (p : ℕ) (h i z : Here) → i ≡ put_line (line p w (say_number r n)) h → z ≡ put_lines (lines (k n) ps xs (p + w)) i
-    → z ≡ put_lines (lines (number w r k) (num n ∷ ps) xs p) h
+pub by_line : (w : ℕ) (r : Rule) (k : ℕ → Layout) {m n : ℕ} (ps : List Part) (xs : List ℕ) (p : ℕ) (h : Here) {i z : Here} → i ≡ put_line (line p w (say_number r m)) h → m ≡ n
+    → z ≡ put_lines (lines (k n) ps xs (p + w)) i → z ≡ put_lines (lines (number w r k) (num n ∷ ps) xs p) h
 unfolding lines put_lines
-by_line w r k n ps xs p h i z e q = q ∙ ap (λ j. put_lines (lines (k n) ps xs (p + w)) j) e
+by_line w r k {m} {n} ps xs p h e same q = q ∙ ap (λ j. put_lines (lines (k n) ps xs (p + w)) j) (e ∙ ap (λ m. put_line (line p w (say_number r m)) h) same)
 
 -- the lines of a length and of its bytes, and then those of the rest
-pub by_buffer : (w m : ℕ) (l : Layout) (s : Span) (ps : List Part) (xs : List ℕ) (p n : ℕ) (h i j z : Here) → i ≡ put_line (line p w (a_number n)) h → n ≡ len_of s → j ≡ put_line (span_line (p + w) (start_of s) (len_of s) xs) i
+pub by_buffer : (w m : ℕ) (l : Layout) (s : Span) (ps : List Part) (xs : List ℕ) (p : ℕ) {n : ℕ} (h : Here) {i j z : Here} → i ≡ put_line (line p w (a_number n)) h → n ≡ len_of s → j ≡ put_line (span_line (p + w) (start_of s) (len_of s) xs) i
     → z ≡ put_lines (lines l ps xs (p + w + len_of s)) j → z ≡ put_lines (lines (buffer w m l) (span_part s ∷ ps) xs p) h
 unfolding lines put_lines
-by_buffer w m l s ps xs p n h i j z e size f q =
+by_buffer w m l s ps xs p h e size f q =
     q ∙ ap (λ y. put_lines (lines l ps xs (p + w + len_of s)) y) (f ∙ ap (λ y. put_line (span_line (p + w) (start_of s) (len_of s) xs) y) (e ∙ ap (λ k. put_line (line p w (a_number k)) h) size))
 
 pub by_end : (xs : List ℕ) (p : ℕ) (h : Here) → h ≡ put_lines (lines stop [] xs p) h
 unfolding lines put_lines
 by_end xs p h = refl
 
--- an item that was read, with its lines; or none
-pub lined : {A : Type 0} (ans : A → Ans Parsed) {a b : A} (l : Layout) (ps : List Part) (xs : List ℕ) (at place e : ℕ) (h k : Here) → a ≡ b → ans a ≡ read l xs at → ans b ≡ parsed ps e
-    → k ≡ put_lines (lines l ps xs (place + at)) h → ItemLined l xs at place h k e
-lined ans l ps xs at place e h k q p is put =
-    let was : parsed ps e ≡ read l xs at = sym is ∙ told ans q p in
-    record {
-      puts = λ s. put ∙ ap (λ r. put_lines (lines l r.parts xs (place + at)) h) (found_same (was ∙ s));
-      ends = λ s. ap (λ r. r.stops) (found_same (was ∙ s));
-    }
-
-pub unlined : {A : Type 0} (ans : A → Ans Parsed) {a b : A} (l : Layout) (xs : List ℕ) (at place e : ℕ) {f : Refusal} (h k : Here) → a ≡ b → ans a ≡ read l xs at → ans b ≡ refused f → ItemLined l xs at place h k e
-unlined ans l xs at place e h k q p is =
-    let was : refused _ ≡ read l xs at = sym is ∙ told ans q p in
-    record { puts = λ s. absurd (found_refused (was ∙ s)); ends = λ s. absurd (found_refused (was ∙ s)) }
+pub ruleset listing = (by_line, by_buffer, by_end)
 
 -- ---- the bytes of an item lie in its list
 
@@ -127,26 +103,25 @@ bits_fit xs at e s b p =
     let len : m ≡ len_of s = ap first_len parts in
     (omega (arith, leb-true m 4 (field_found 1 (length_to 4) xs at b d).1), omega arith)
 
-pub selection_fits : (x : TpmsPcrSelection) (a : TpmsPcrSelectionRead) (xs : List ℕ) (at : ℕ) {e : ℕ} → Bytes xs → a ≡ TpmsPcrSelectionRead.Found x e → tpms_pcr_selection_answer a ≡ read tpms_pcr_selection xs at
+pub selection_fits : (x : TpmsPcrSelection) (xs : List ℕ) (at : ℕ) → Bytes xs → HasParts tpms_pcr_selection (tpms_pcr_selection_parts x) xs at
     → (len_of x.pcr_select ≤ 0x10001) × (start_of x.pcr_select + len_of x.pcr_select ≤ length xs)
 unfolding tpms_pcr_selection
-selection_fits x a xs at {e} b q p =
-    let was = told tpms_pcr_selection_answer q p in
+selection_fits x xs at b (e, was) =
     let (few, stops) = bits_fit xs (at + 2) e x.pcr_select b (peel 2 alg (λ n. buffer 1 4 stop) xs at x.hash.0 e (span_part x.pcr_select ∷ []) was) in
     (omega arith, omega (arith, item_ends PcrSelection xs at b (ap end_of was)))
 
 -- the arm of a digest that was read is the one that its algorithm chooses
-ha_chosen : (v : ℕ) (xs : List ℕ) (at t e : ℕ) (ps : List Part) → parsed (tag t ∷ ps) e ≡ read (tpmu_ha v) xs at → (tpmu_ha_arm v ≡ The t) × (parsed ps e ≡ read (tpmu_ha_body t) xs at)
+ha_chosen : (v : ℕ) (xs : List ℕ) (at t e : ℕ) (ps : List Part) → parsed (tag t ∷ ps) e ≡ read (tpmu_ha v) xs at → (tpmu_ha_arm v ≡ Some t) × (parsed ps e ≡ read (tpmu_ha_body t) xs at)
 unfolding read tpmu_ha
 ha_chosen v xs at t e ps p = by (tpmu_ha_arm v) refl p
   where
-    by : (c : Choice) → tpmu_ha_arm v ≡ c → parsed (tag t ∷ ps) e ≡ read (union c tpmu_ha_body v) xs at → (tpmu_ha_arm v ≡ The t) × (parsed ps e ≡ read (tpmu_ha_body t) xs at)
-    by Nothing q p = absurd (found_refused (sym p))
-    by (The u) q p =
+    by : (c : Option ℕ) → tpmu_ha_arm v ≡ c → parsed (tag t ∷ ps) e ≡ read (union c tpmu_ha_body v) xs at → (tpmu_ha_arm v ≡ Some t) × (parsed ps e ≡ read (tpmu_ha_body t) xs at)
+    by None q p = absurd (found_refused (sym p))
+    by (Some u) q p =
         let (inner, l, s) = next_found (read (tpmu_ha_body u) xs at) _ (sym p) in
         let (parts, stops) = parsed_same s in
         let same : u ≡ t = ap first_tag parts in
-        (q ∙ ap The same, sym (parsed_is inner (ap behind_first parts) stops) ∙ sym l ∙ ap (λ u. read (tpmu_ha_body u) xs at) same)
+        (q ∙ ap Some same, sym (parsed_is inner (ap behind_first parts) stops) ∙ sym l ∙ ap (λ u. read (tpmu_ha_body u) xs at) same)
 
 -- so a digest has the line of its bytes, which lie in the list
 module _ (v : ℕ) (xs : List ℕ) (at e : ℕ) (s : Span) (was : parsed (tag (digest_of (len_of s)) ∷ span_part s ∷ []) e ≡ read (tpmu_ha v) xs at) where
@@ -175,40 +150,28 @@ null_line v xs at e p h was = rw (ha_chosen v xs at null e [] was).0 refl
 
 -- ---- a policy
 
-module _ (x : TpmsTaggedPolicy) (xs : List ℕ) (at e : ℕ) (was : parsed (tpms_tagged_policy_parts x) e ≡ read tpms_tagged_policy xs at) where
+module _ (x : TpmsTaggedPolicy) (xs : List ℕ) (at : ℕ) (is : HasParts tpms_tagged_policy (tpms_tagged_policy_parts x) xs at) where
   abbrev code : ℕ
   code = x.policy_hash.hash_alg.0
 
-  rest : parsed (tpmu_ha_parts x.policy_hash.digest) e ≡ read (tpmu_ha code) xs (at + 4 + 2)
+  -- behind its handle and its algorithm stands its digest
+  has_digest : (d : TpmuHa) → x.policy_hash.digest ≡ d → parsed (tpmu_ha_parts d) is.0 ≡ read (tpmu_ha code) xs (at + 4 + 2)
   unfolding tpms_tagged_policy tpmt_ha
-  rest =
-      peel 2 alg tpmu_ha xs (at + 4) code e (tpmu_ha_parts x.policy_hash.digest)
-      (peel 4 free (λ handle. tpmt_ha) xs at x.handle e (tpmt_ha_parts x.policy_hash) was)
+  has_digest d q =
+      ap (λ d. parsed (tpmu_ha_parts d) is.0) (sym q)
+      ∙ peel 2 alg tpmu_ha xs (at + 4) code is.0 (tpmu_ha_parts x.policy_hash.digest) (peel 4 free (λ handle. tpmt_ha) xs at x.handle is.0 (tpmt_ha_parts x.policy_hash) is.1)
 
-  policy_lines : (p : ℕ) (h i j z : Here) → i ≡ put_line (line p 4 (a_number x.handle)) h → j ≡ put_line (line (p + 4) 2 (a_code code)) i
-      → z ≡ put_lines (lines (tpmu_ha code) (tpmu_ha_parts x.policy_hash.digest) xs (p + 4 + 2)) j → z ≡ put_lines (lines tpms_tagged_policy (tpms_tagged_policy_parts x) xs p) h
-  unfolding tpms_tagged_policy tpmt_ha
-  policy_lines p h i j z a b q =
-      by_line 4 free (λ handle. tpmt_ha) x.handle (tpmt_ha_parts x.policy_hash) xs p h i z a
-      (by_line 2 alg tpmu_ha code (tpmu_ha_parts x.policy_hash.digest) xs (p + 4) i j z b q)
+  lines_of_digest : (d : TpmuHa) (p : ℕ) (h : Here) {z : Here} → x.policy_hash.digest ≡ d → z ≡ put_lines (lines (tpmu_ha code) (tpmu_ha_parts d) xs p) h → z ≡ put_lines (lines (tpmu_ha code) (tpmu_ha_parts x.policy_hash.digest) xs p) h
+  lines_of_digest d p h q r = r ∙ ap (λ d. put_lines (lines (tpmu_ha code) (tpmu_ha_parts d) xs p) h) (sym q)
 
-  pub policy_null : x.policy_hash.digest ≡ TpmuHa.Null → (p : ℕ) (h i j : Here) → i ≡ put_line (line p 4 (a_number x.handle)) h → j ≡ put_line (line (p + 4) 2 (a_code code)) i
-      → j ≡ put_lines (lines tpms_tagged_policy (tpms_tagged_policy_parts x) xs p) h
-  policy_null q p h i j a b =
-      policy_lines p h i j j a b
-      (null_line code xs (at + 4 + 2) e (p + 4 + 2) j (ap (λ d. parsed (tpmu_ha_parts d) e) (sym q) ∙ rest) ∙ ap (λ d. put_lines (lines (tpmu_ha code) (tpmu_ha_parts d) xs (p + 4 + 2)) j) (sym q))
+  pub null_lines : (p : ℕ) (h : Here) → x.policy_hash.digest ≡ TpmuHa.Null → h ≡ put_lines (lines (tpmu_ha code) (tpmu_ha_parts x.policy_hash.digest) xs p) h
+  null_lines p h q = lines_of_digest TpmuHa.Null p h q (null_line code xs (at + 4 + 2) is.0 p h (has_digest TpmuHa.Null q))
 
   module _ (s : Span) (q : x.policy_hash.digest ≡ TpmuHa.Digest s) where
-    of_digest : parsed (tag (digest_of (len_of s)) ∷ span_part s ∷ []) e ≡ read (tpmu_ha code) xs (at + 4 + 2)
-    of_digest = ap (λ d. parsed (tpmu_ha_parts d) e) (sym q) ∙ rest
-
-    pub policy_digest : (p : ℕ) (h i j z : Here) → i ≡ put_line (line p 4 (a_number x.handle)) h → j ≡ put_line (line (p + 4) 2 (a_code code)) i → z ≡ put_line (span_line (p + 4 + 2) (start_of s) (len_of s) xs) j
-        → z ≡ put_lines (lines tpms_tagged_policy (tpms_tagged_policy_parts x) xs p) h
-    policy_digest p h i j z a b f =
-        policy_lines p h i j z a b
-        (digest_line code xs (at + 4 + 2) e s of_digest (p + 4 + 2) j z f ∙ ap (λ d. put_lines (lines (tpmu_ha code) (tpmu_ha_parts d) xs (p + 4 + 2)) j) (sym q))
+    pub digest_lines : (p : ℕ) (h : Here) {z : Here} → z ≡ put_line (span_line p (start_of s) (len_of s) xs) h → z ≡ put_lines (lines (tpmu_ha code) (tpmu_ha_parts x.policy_hash.digest) xs p) h
+    digest_lines p h {z} f = lines_of_digest (TpmuHa.Digest s) p h q (digest_line code xs (at + 4 + 2) is.0 s (has_digest (TpmuHa.Digest s) q) p h z f)
 
     pub policy_fits : Bytes xs → (len_of s ≤ 0x10001) × (start_of s + len_of s ≤ length xs)
     policy_fits b =
-        let (few, stops) = digest_fits code xs (at + 4 + 2) e s of_digest in
-        (omega arith, omega (arith, item_ends TaggedPolicy xs at b (ap end_of was)))
+        let (few, stops) = digest_fits code xs (at + 4 + 2) is.0 s (has_digest (TpmuHa.Digest s) q) in
+        (omega arith, omega (arith, item_ends TaggedPolicy xs at b (ap end_of is.1)))

@@ -1,15 +1,12 @@
 // The items of lists that are structures. `unmarshal` reads one where it stands.
-ghost use Rattle.std.specs.Prelude.{◌≡◌};
-ghost use Rattle.wire.specs.Reading.{read};
 ghost use Rattle.format.specs.Kinds.{tpms_pcr_selection, tpms_alg_property, tpms_tagged_property, tpms_tagged_policy, tpms_act_data};
-ghost use Rattle.items.specs.Items.{tpms_pcr_selection_answer, tpms_alg_property_answer, tpms_tagged_property_answer, tpms_tagged_policy_answer, tpms_act_data_answer};
+ghost use Rattle.items.specs.Parts.{tpms_pcr_selection_parts, tpms_alg_property_parts, tpms_tagged_property_parts, tpms_tagged_policy_parts, tpms_act_data_parts};
 
-use ciphers::tpmt::{TpmtHa, TpmtHaRead};
-use codes::uint::{Uint32Read, uint32};
-use codes::{TpmAlgId, TpmAlgIdRead};
-use faults::Refusal;
-use wire::read::{SpanRead, buffer};
+use ciphers::tpmt::TpmtHa;
+use codes::TpmAlgId;
+use wire::read::{Read, buffer};
 use wire::span::Span;
+use wire::unmarshal::TpmUnmarshal;
 use wire::width::Width;
 
 // TPMS_PCR_SELECTION: a bank, and the bits of its registers.
@@ -19,23 +16,11 @@ pub struct TpmsPcrSelection {
     pub pcr_select: Span,
 }
 
-#[derive(Clone, Copy)]
-pub enum TpmsPcrSelectionRead {
-    Found(TpmsPcrSelection, usize),
-    No(Refusal),
-}
-
 // TPMS_ALG_PROPERTY: an algorithm and its attributes.
 #[derive(Clone, Copy)]
 pub struct TpmsAlgProperty {
     pub alg: TpmAlgId,
     pub alg_properties: u32,
-}
-
-#[derive(Clone, Copy)]
-pub enum TpmsAlgPropertyRead {
-    Found(TpmsAlgProperty, usize),
-    No(Refusal),
 }
 
 // TPMS_TAGGED_PROPERTY: a tag and a value, both any number.
@@ -45,23 +30,11 @@ pub struct TpmsTaggedProperty {
     pub value: u32,
 }
 
-#[derive(Clone, Copy)]
-pub enum TpmsTaggedPropertyRead {
-    Found(TpmsTaggedProperty, usize),
-    No(Refusal),
-}
-
 // TPMS_TAGGED_POLICY: a handle, and the digest of its policy.
 #[derive(Clone, Copy)]
 pub struct TpmsTaggedPolicy {
     pub handle: u32,
     pub policy_hash: TpmtHa,
-}
-
-#[derive(Clone, Copy)]
-pub enum TpmsTaggedPolicyRead {
-    Found(TpmsTaggedPolicy, usize),
-    No(Refusal),
 }
 
 // TPMS_ACT_DATA: a timer's handle, its timeout and its attributes.
@@ -72,149 +45,82 @@ pub struct TpmsActData {
     pub attributes: u32,
 }
 
-#[derive(Clone, Copy)]
-pub enum TpmsActDataRead {
-    Found(TpmsActData, usize),
-    No(Refusal),
-}
+impl TpmUnmarshal for TpmsPcrSelection {
+    ghost layout = { tpms_pcr_selection };
 
-impl TpmsPcrSelection {
-    pub fn unmarshal(s: &[u8], at: usize) -> TpmsPcrSelectionRead
-        ensures { tpms_pcr_selection_answer result ≡ read tpms_pcr_selection s.now at }
-    {
-        let mut end = at;
-        let hash = match TpmAlgId::unmarshal(s, end) {
-            TpmAlgIdRead::Found(v, e) => {
-                end = e;
-                v
-            }
-            TpmAlgIdRead::No(f) => return TpmsPcrSelectionRead::No(f),
-        };
-        let pcr_select = match buffer(s, end, Width::One, 4) {
-            SpanRead::Found(v, e) => {
-                end = e;
-                v
-            }
-            SpanRead::No(f) => return TpmsPcrSelectionRead::No(f),
-        };
-        TpmsPcrSelectionRead::Found(Self { hash, pcr_select }, end)
+    ghost parts = { tpms_pcr_selection_parts };
+
+    fn unmarshal(s: &[u8], at: usize) -> Read<Self> {
+        let (hash, end) = TpmAlgId::unmarshal(s, at)?;
+        let (pcr_select, end) = buffer(s, end, Width::One, 4)?;
+        Ok((Self { hash, pcr_select }, end))
     }
 }
 
-impl TpmsAlgProperty {
-    pub fn unmarshal(s: &[u8], at: usize) -> TpmsAlgPropertyRead
-        ensures { tpms_alg_property_answer result ≡ read tpms_alg_property s.now at }
-    {
-        let mut end = at;
-        let alg = match TpmAlgId::unmarshal(s, end) {
-            TpmAlgIdRead::Found(v, e) => {
-                end = e;
-                v
-            }
-            TpmAlgIdRead::No(f) => return TpmsAlgPropertyRead::No(f),
-        };
-        let alg_properties = match uint32(s, end) {
-            Uint32Read::Found(v, e) => {
-                end = e;
-                v
-            }
-            Uint32Read::No(f) => return TpmsAlgPropertyRead::No(f),
-        };
-        TpmsAlgPropertyRead::Found(
+impl TpmUnmarshal for TpmsAlgProperty {
+    ghost layout = { tpms_alg_property };
+
+    ghost parts = { tpms_alg_property_parts };
+
+    fn unmarshal(s: &[u8], at: usize) -> Read<Self> {
+        let (alg, end) = TpmAlgId::unmarshal(s, at)?;
+        let (alg_properties, end) = u32::unmarshal(s, end)?;
+        Ok((
             Self {
                 alg,
                 alg_properties,
             },
             end,
-        )
+        ))
     }
 }
 
-impl TpmsTaggedProperty {
-    pub fn unmarshal(s: &[u8], at: usize) -> TpmsTaggedPropertyRead
-        ensures { tpms_tagged_property_answer result ≡ read tpms_tagged_property s.now at }
-    {
-        let mut end = at;
-        let property = match uint32(s, end) {
-            Uint32Read::Found(v, e) => {
-                end = e;
-                v
-            }
-            Uint32Read::No(f) => return TpmsTaggedPropertyRead::No(f),
-        };
-        let value = match uint32(s, end) {
-            Uint32Read::Found(v, e) => {
-                end = e;
-                v
-            }
-            Uint32Read::No(f) => return TpmsTaggedPropertyRead::No(f),
-        };
-        TpmsTaggedPropertyRead::Found(Self { property, value }, end)
+impl TpmUnmarshal for TpmsTaggedProperty {
+    ghost layout = { tpms_tagged_property };
+
+    ghost parts = { tpms_tagged_property_parts };
+
+    fn unmarshal(s: &[u8], at: usize) -> Read<Self> {
+        let (property, end) = u32::unmarshal(s, at)?;
+        let (value, end) = u32::unmarshal(s, end)?;
+        Ok((Self { property, value }, end))
     }
 }
 
-impl TpmsTaggedPolicy {
-    pub fn unmarshal(s: &[u8], at: usize) -> TpmsTaggedPolicyRead
-        ensures { tpms_tagged_policy_answer result ≡ read tpms_tagged_policy s.now at }
-    {
-        let mut end = at;
-        let handle = match uint32(s, end) {
-            Uint32Read::Found(v, e) => {
-                end = e;
-                v
-            }
-            Uint32Read::No(f) => return TpmsTaggedPolicyRead::No(f),
-        };
-        let policy_hash = match TpmtHa::unmarshal(s, end) {
-            TpmtHaRead::Found(v, e) => {
-                end = e;
-                v
-            }
-            TpmtHaRead::No(f) => return TpmsTaggedPolicyRead::No(f),
-        };
-        TpmsTaggedPolicyRead::Found(
+impl TpmUnmarshal for TpmsTaggedPolicy {
+    ghost layout = { tpms_tagged_policy };
+
+    ghost parts = { tpms_tagged_policy_parts };
+
+    fn unmarshal(s: &[u8], at: usize) -> Read<Self> {
+        let (handle, end) = u32::unmarshal(s, at)?;
+        let (policy_hash, end) = TpmtHa::unmarshal(s, end)?;
+        Ok((
             Self {
                 handle,
                 policy_hash,
             },
             end,
-        )
+        ))
     }
 }
 
-impl TpmsActData {
-    pub fn unmarshal(s: &[u8], at: usize) -> TpmsActDataRead
-        ensures { tpms_act_data_answer result ≡ read tpms_act_data s.now at }
-    {
-        let mut end = at;
-        let handle = match uint32(s, end) {
-            Uint32Read::Found(v, e) => {
-                end = e;
-                v
-            }
-            Uint32Read::No(f) => return TpmsActDataRead::No(f),
-        };
-        let timeout = match uint32(s, end) {
-            Uint32Read::Found(v, e) => {
-                end = e;
-                v
-            }
-            Uint32Read::No(f) => return TpmsActDataRead::No(f),
-        };
-        let attributes = match uint32(s, end) {
-            Uint32Read::Found(v, e) => {
-                end = e;
-                v
-            }
-            Uint32Read::No(f) => return TpmsActDataRead::No(f),
-        };
-        TpmsActDataRead::Found(
+impl TpmUnmarshal for TpmsActData {
+    ghost layout = { tpms_act_data };
+
+    ghost parts = { tpms_act_data_parts };
+
+    fn unmarshal(s: &[u8], at: usize) -> Read<Self> {
+        let (handle, end) = u32::unmarshal(s, at)?;
+        let (timeout, end) = u32::unmarshal(s, end)?;
+        let (attributes, end) = u32::unmarshal(s, end)?;
+        Ok((
             Self {
                 handle,
                 timeout,
                 attributes,
             },
             end,
-        )
+        ))
     }
 }

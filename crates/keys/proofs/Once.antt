@@ -1,18 +1,14 @@
--- The parts of each type determine it, and no two answers of this crate mean the same. Assumes nothing.
+-- The parts of each type determine it. Assumes nothing.
 use mathlib.Core.Path.{refl}
 use mathlib.Core.List.{[], ◌∷◌}
-use Rattle.wire.proofs.Once.{Injective, Once, number_once, span_once, both, fields, holds, bare, union, answers}
+use Rattle.wire.proofs.Once.{Once, number_once, span_once, both, fields, holds, bare, union}
 use Rattle.wire.specs.Records.{num}
 use Rattle.codes.specs.Codes.{rsa, keyed_hash, null, ecc, sym_cipher}
 use Rattle.codes.proofs.Once.{tpm_alg_id_once}
 use Rattle.parameters.proofs.Once.{tpmu_public_parms_once}
-use Rattle.keys.specs.declared.tpms.TpmsEccPointRead.{TpmsEccPointRead}
 use Rattle.keys.specs.declared.tpmu.TpmuPublicId.{TpmuPublicId}
-use Rattle.keys.specs.declared.tpmu.TpmuPublicIdRead.{TpmuPublicIdRead}
-use Rattle.keys.specs.declared.tpmt.TpmtPublicRead.{TpmtPublicRead}
 use Rattle.keys.specs.declared.tpmt.TpmaObject.{TpmaObject}
 use Rattle.keys.specs.Parts.{tpms_ecc_point_parts, tpmu_public_id_parts, tpmt_public_parts}
-use Rattle.keys.specs.Answers.{tpms_ecc_point_answer, tpmu_public_id_answer, tpmt_public_answer}
 
 -- ---- structures
 
@@ -45,14 +41,3 @@ tpma_object_once = fields (λ a. a.0) (λ n. record { 0 = n }) (λ a. refl) numb
 
 pub tpmt_public_once : Once tpmt_public_parts
 tpmt_public_once = fields (λ s. (s.object_type, (s.name_alg, (s.object_attributes, (s.auth_policy, (s.parameters, s.unique)))))) (λ (a, (b, (c, (d, (e, f))))). record { object_type = a; name_alg = b; object_attributes = c; auth_policy = d; parameters = e; unique = f }) (λ s. refl) (both tpm_alg_id_once (both tpm_alg_id_once (both tpma_object_once (both span_once (both tpmu_public_parms_once tpmu_public_id_once)))))
-
--- ---- answers
-
-pub tpms_ecc_point_answer_once : Injective tpms_ecc_point_answer
-tpms_ecc_point_answer_once = answers tpms_ecc_point_once TpmsEccPointRead.Found TpmsEccPointRead.No tpms_ecc_point_answer (λ back. elim [ TpmsEccPointRead.Found x e ↦ back x e | TpmsEccPointRead.No f ↦ refl ])
-
-pub tpmu_public_id_answer_once : Injective tpmu_public_id_answer
-tpmu_public_id_answer_once = answers tpmu_public_id_once TpmuPublicIdRead.Found TpmuPublicIdRead.No tpmu_public_id_answer (λ back. elim [ TpmuPublicIdRead.Found x e ↦ back x e | TpmuPublicIdRead.No f ↦ refl ])
-
-pub tpmt_public_answer_once : Injective tpmt_public_answer
-tpmt_public_answer_once = answers tpmt_public_once TpmtPublicRead.Found TpmtPublicRead.No tpmt_public_answer (λ back. elim [ TpmtPublicRead.Found x e ↦ back x e | TpmtPublicRead.No f ↦ refl ])

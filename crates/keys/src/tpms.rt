@@ -1,16 +1,14 @@
 // A point on a curve.
-ghost use Rattle.std.specs.Prelude.{◌≡◌, []};
-ghost use Rattle.wire.specs.Reading.{read};
+ghost use Rattle.std.specs.Prelude.{[], refl};
 ghost use Rattle.format.specs.Kinds.{tpms_ecc_point};
-ghost use Rattle.steps.specs.Walks.{here, Walks};
-ghost use Rattle.keys.specs.Answers.{tpms_ecc_point_answer};
 ghost use Rattle.keys.specs.Parts.{tpms_ecc_point_parts};
 
-use faults::Refusal;
 use format::limits;
+use steps::marshal::TpmMarshal;
 use steps::walk::Walk;
-use wire::read::{SpanRead, buffer};
+use wire::read::{Read, buffer};
 use wire::span::Span;
+use wire::unmarshal::TpmUnmarshal;
 use wire::width::Width;
 
 #[derive(Clone, Copy)]
@@ -19,38 +17,29 @@ pub struct TpmsEccPoint {
     pub y: Span,
 }
 
-#[derive(Clone, Copy)]
-pub enum TpmsEccPointRead {
-    Found(TpmsEccPoint, usize),
-    No(Refusal),
+impl TpmUnmarshal for TpmsEccPoint {
+    ghost layout = { tpms_ecc_point };
+
+    ghost parts = { tpms_ecc_point_parts };
+
+    // TPMS_ECC_POINT, read.
+    fn unmarshal(s: &[u8], at: usize) -> Read<Self> {
+        let (x, end) = buffer(s, at, Width::Two, limits::MAX_ECC_KEY_BYTES)?;
+        let (y, end) = buffer(s, end, Width::Two, limits::MAX_ECC_KEY_BYTES)?;
+        Ok((Self { x, y }, end))
+    }
 }
 
-impl TpmsEccPoint {
-    // TPMS_ECC_POINT, read.
-    pub fn unmarshal(s: &[u8], at: usize) -> TpmsEccPointRead
-        ensures { tpms_ecc_point_answer result ≡ read tpms_ecc_point s.now at }
-    {
-        let mut end = at;
-        let x = match buffer(s, end, Width::Two, limits::MAX_ECC_KEY_BYTES) {
-            SpanRead::Found(v, e) => {
-                end = e;
-                v
-            }
-            SpanRead::No(f) => return TpmsEccPointRead::No(f),
-        };
-        let y = match buffer(s, end, Width::Two, limits::MAX_ECC_KEY_BYTES) {
-            SpanRead::Found(v, e) => {
-                end = e;
-                v
-            }
-            SpanRead::No(f) => return TpmsEccPointRead::No(f),
-        };
-        TpmsEccPointRead::Found(Self { x, y }, end)
-    }
+impl TpmMarshal for TpmsEccPoint {
+    ghost lists = { λ _. [] };
 
-    pub fn walk(self, w: Walk, src: &[u8], out: &mut [u8]) -> Walk
-        ensures { Walks 2 tpms_ecc_point (tpms_ecc_point_parts self) [] src.now (here w out.old) (here result out.new) }
-    {
+    ghost one_list = { λ _. refl };
+
+    ghost steps = { 2 };
+
+    ghost few = { refl };
+
+    fn walk(self, w: Walk, src: &[u8], out: &mut [u8]) -> Walk {
         w.buffer(limits::MAX_ECC_KEY_BYTES, self.x, src, out)
             .buffer(limits::MAX_ECC_KEY_BYTES, self.y, src, out)
     }

@@ -1,21 +1,22 @@
 // What is unique of a public area, by the type, as the parameters are. It has the calls that a union has (ciphers, tpmu.rt).
 ghost use Rattle.std.specs.Prelude.{◌≡◌, []};
+ghost use Rattle.wire.specs.Answers.{answer};
 ghost use Rattle.wire.specs.Reading.{read};
 ghost use Rattle.wire.specs.Unions.{is_arm, held};
 ghost use Rattle.format.specs.Kinds.{tpmu_public_id_arm, tpmu_public_id};
 ghost use Rattle.steps.specs.Walks.{here, Walks};
 ghost use Rattle.keys.specs.Parts.{tpmu_public_id_parts};
-ghost use Rattle.keys.specs.Answers.{tpmu_public_id_answer};
 
-use crate::tpms::{TpmsEccPoint, TpmsEccPointRead};
-use codes::{TpmAlgId, registry};
+use crate::tpms::TpmsEccPoint;
+use codes::TpmAlgId;
 use faults::Refusal;
 use format::arms::public_id_arm;
 use format::limits;
+use steps::marshal::TpmMarshal;
 use steps::walk::Walk;
-use wire::read::{SpanRead, buffer};
+use wire::read::{Read, buffer};
 use wire::span::Span;
-use wire::widen::wide;
+use wire::unmarshal::TpmUnmarshal;
 use wire::width::Width;
 
 #[derive(Clone, Copy)]
@@ -27,56 +28,48 @@ pub enum TpmuPublicId {
     Null,
 }
 
-#[derive(Clone, Copy)]
-pub enum TpmuPublicIdRead {
-    Found(TpmuPublicId, usize),
-    No(Refusal),
-}
-
 impl TpmuPublicId {
-    pub fn unmarshal_tagged(tag: TpmAlgId, s: &[u8], at: usize) -> TpmuPublicIdRead
-        ensures { tpmu_public_id_answer result ≡ read (tpmu_public_id tag.0) s.now at }
+    pub fn unmarshal_tagged(tag: TpmAlgId, s: &[u8], at: usize) -> Read<TpmuPublicId>
+        ensures { answer tpmu_public_id_parts result ≡ read (tpmu_public_id tag.0) s.now at }
     {
-        let v = tag.0;
-        match v {
-            registry::KEYED_HASH => match buffer(s, at, Width::Two, limits::MAX_DIGEST_SIZE) {
-                SpanRead::Found(x, e) => TpmuPublicIdRead::Found(Self::KeyedHash(x), e),
-                SpanRead::No(f) => TpmuPublicIdRead::No(f),
-            },
-            registry::SYM_CIPHER => match buffer(s, at, Width::Two, limits::MAX_SYM_KEY_BYTES) {
-                SpanRead::Found(x, e) => TpmuPublicIdRead::Found(Self::SymCipher(x), e),
-                SpanRead::No(f) => TpmuPublicIdRead::No(f),
-            },
-            registry::RSA => match buffer(s, at, Width::Two, limits::MAX_RSA_KEY_BYTES) {
-                SpanRead::Found(x, e) => TpmuPublicIdRead::Found(Self::Rsa(x), e),
-                SpanRead::No(f) => TpmuPublicIdRead::No(f),
-            },
-            registry::ECC => match TpmsEccPoint::unmarshal(s, at) {
-                TpmsEccPointRead::Found(x, e) => TpmuPublicIdRead::Found(Self::Ecc(x), e),
-                TpmsEccPointRead::No(f) => TpmuPublicIdRead::No(f),
-            },
-            registry::NULL => TpmuPublicIdRead::Found(Self::Null, at),
-            _ => TpmuPublicIdRead::No(Refusal::no_arm(at, wide(v))),
+        match tag {
+            TpmAlgId::KeyedHash => {
+                let (x, end) = buffer(s, at, Width::Two, limits::MAX_DIGEST_SIZE)?;
+                Ok((Self::KeyedHash(x), end))
+            }
+            TpmAlgId::SymCipher => {
+                let (x, end) = buffer(s, at, Width::Two, limits::MAX_SYM_KEY_BYTES)?;
+                Ok((Self::SymCipher(x), end))
+            }
+            TpmAlgId::Rsa => {
+                let (x, end) = buffer(s, at, Width::Two, limits::MAX_RSA_KEY_BYTES)?;
+                Ok((Self::Rsa(x), end))
+            }
+            TpmAlgId::Ecc => {
+                let (x, end) = TpmsEccPoint::unmarshal(s, at)?;
+                Ok((Self::Ecc(x), end))
+            }
+            TpmAlgId::Null => Ok((Self::Null, at)),
+            _ => Err(Refusal::no_arm(at, u64::from(tag.0))),
         }
     }
 
     pub fn matches_tag(self, tag: TpmAlgId) -> bool
         ensures { result ≡ is_arm (tpmu_public_id_arm tag.0) (held (tpmu_public_id_parts self)) }
     {
-        let v = tag.0;
         match self {
-            Self::KeyedHash(_) => v == registry::KEYED_HASH,
-            Self::SymCipher(_) => v == registry::SYM_CIPHER,
-            Self::Rsa(_) => v == registry::RSA,
-            Self::Ecc(_) => v == registry::ECC,
-            Self::Null => v == registry::NULL,
+            Self::KeyedHash(_) => tag.0 == TpmAlgId::KeyedHash.0,
+            Self::SymCipher(_) => tag.0 == TpmAlgId::SymCipher.0,
+            Self::Rsa(_) => tag.0 == TpmAlgId::Rsa.0,
+            Self::Ecc(_) => tag.0 == TpmAlgId::Ecc.0,
+            Self::Null => tag.0 == TpmAlgId::Null.0,
         }
     }
 
     pub fn walk_tagged(self, tag: TpmAlgId, w: Walk, src: &[u8], out: &mut [u8]) -> Walk
         ensures { Walks 3 (tpmu_public_id tag.0) (tpmu_public_id_parts self) [] src.now (here w out.old) (here result out.new) }
     {
-        let v = w.due(tag.0, public_id_arm(tag), self.matches_tag(tag));
+        let v = w.due(tag, public_id_arm(tag), self.matches_tag(tag));
         match self {
             Self::KeyedHash(x) => v.buffer(limits::MAX_DIGEST_SIZE, x, src, out),
             Self::SymCipher(x) => v.buffer(limits::MAX_SYM_KEY_BYTES, x, src, out),

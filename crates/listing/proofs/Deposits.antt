@@ -8,9 +8,9 @@ use mathlib.Core.List.{List, [], ◌∷◌, ◌++◌}
 use lib.ListN.{length, take, drop, get_or, length-append}
 use lib.Dec.{leb}
 use lib.Seq.{length-take-le, take_all}
+use Rattle.std.specs.Prelude.{Err, Ok, Result}
 use Rattle.faults.specs.declared.Refusal.{Refusal}
 use Rattle.faults.specs.Faults.{no_room, bad_kind, oversize}
-use Rattle.wire.specs.declared.measure.Measure.{Measure}
 use Rattle.wire.specs.Bytes.{Bytes}
 use Rattle.wire.specs.Records.{Ans, Part, found, refused, Parsed, parsed}
 use Rattle.wire.specs.Reading.{end_of}
@@ -35,8 +35,9 @@ use Rattle.listing.specs.Listing.{judged, answer_text, record_text, listing, ans
 
 -- ---- what is answered
 
-pub no_kind_unread : (k : ℕ) {j : ℕ} {f : Refusal} → f ≡ bad_kind j → j ≡ k → is_kind k ≡ false → f ≡ cond (is_kind k) oversize (bad_kind k)
-no_kind_unread k e same none = rw (none, e, same)
+-- of one that is too long: its number is no kind, or is one
+pub no_kind_unread : (k : ℕ) {f : Refusal} → f ≡ bad_kind k → is_kind k ≡ false → f ≡ cond (is_kind k) oversize (bad_kind k)
+no_kind_unread k e none = rw (none, e)
 
 pub kind_unread : (k : ℕ) {f : Refusal} → f ≡ oversize → is_kind k ≡ true → f ≡ cond (is_kind k) oversize (bad_kind k)
 kind_unread k e some = rw (some, e)
@@ -63,7 +64,7 @@ pub end_unread : (k : ℕ) (bs : List ℕ) {f : Refusal} → 4096 < length bs �
 end_unread k bs many e = ap refused e ∙ ap end_of (sym (judged_unread k bs many))
 
 -- what was answered, by where it ends
-pub judged_refused : (k : ℕ) (bs : List ℕ) {m : Measure} {f : Refusal} → measure_answer m ≡ end_of (judged k bs) → m ≡ Measure.No f → judged k bs ≡ refused f
+pub judged_refused : (k : ℕ) (bs : List ℕ) {m : Result ℕ Refusal} {f : Refusal} → measure_answer m ≡ end_of (judged k bs) → m ≡ Err f → judged k bs ≡ refused f
 judged_refused k bs {f = f} p given = by (judged k bs) (sym p ∙ ap measure_answer given)
   where
     by : (y : Ans Parsed) → end_of y ≡ refused f → y ≡ refused f
@@ -104,7 +105,7 @@ pub record ReadAs (k : ℕ) (bs : List ℕ) (e : ℕ) : Type 0 where
   pub inside : e ≤ length bs
   pub most : e ≤ 2287
 
-pub read_as : (k : ℕ) (bs : List ℕ) {m : Measure} {e : ℕ} → Bytes bs → measure_answer m ≡ end_of (judged k bs) → m ≡ Measure.Size e → ReadAs k bs e
+pub read_as : (k : ℕ) (bs : List ℕ) {m : Result ℕ Refusal} {e : ℕ} → Bytes bs → measure_answer m ≡ end_of (judged k bs) → m ≡ Ok e → ReadAs k bs e
 unfolding judged
 read_as k bs {e = e} b p given =
     let (r, answer, stops) = next_found (judged k bs) _ (sym p ∙ ap measure_answer given) in
@@ -177,7 +178,7 @@ end_answered k bs p = ap is_found p ∙ by (judged k bs)
 
 -- ---- the slice that is lent
 
-pub listed : {text old : List ℕ} {r : ℕ} {last : List ℕ} → length text ≤ length old → Counts text old r last → Lists text old (Measure.Size r) last
+pub listed : {text old : List ℕ} {r : ℕ} {last : List ℕ} → length text ≤ length old → Counts text old r last → Lists text old (Ok r) last
 listed {text} {old} room p =
     let enough = le-leb (length text) (length old) room in
     record {
@@ -186,7 +187,7 @@ listed {text} {old} room p =
       most = p.most;
     }
 
-pub not_listed : {text old : List ℕ} {n : ℕ} {f : Refusal} → f ≡ no_room 0 n → (n ≡ length text) × (n ≤ 16384) → length old < n → Lists text old (Measure.No f) old
+pub not_listed : {text old : List ℕ} {n : ℕ} {f : Refusal} → f ≡ no_room 0 n → (n ≡ length text) × (n ≤ 16384) → length old < n → Lists text old (Err f) old
 not_listed {text} {old} e (size, most) small =
     let short = lt-leb (length text) (length old) (omega arith) in
     record {
@@ -196,11 +197,11 @@ not_listed {text} {old} e (size, most) small =
     }
 
 -- of a record, and so of a deposit
-pub deposit_listed : (d : List ℕ) {text old : List ℕ} {r : Measure} {last : List ℕ} → text ≡ listing d → Lists text old r last → Lists (listing d) old r last
+pub deposit_listed : (d : List ℕ) {text old : List ℕ} {r : Result ℕ Refusal} {last : List ℕ} → text ≡ listing d → Lists text old r last → Lists (listing d) old r last
 deposit_listed d {old = old} {r = r} {last = last} e p = subst (λ t. Lists t old r last) e p
 
 -- a listing lies in what was lent for it
-pub listed_inside : {text old last : List ℕ} {r : Measure} {n : ℕ} → Lists text old r last → r ≡ Measure.Size n → n ≤ length last
+pub listed_inside : {text old last : List ℕ} {r : Result ℕ Refusal} {n : ℕ} → Lists text old r last → r ≡ Ok n → n ≤ length last
 listed_inside {text} {old} {last} {r} {n} lists given = by (leb (length text) (length old)) refl
   where
     by : (b : Bool) → leb (length text) (length old) ≡ b → n ≤ length last

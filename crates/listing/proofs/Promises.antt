@@ -7,9 +7,9 @@ use mathlib.Core.Bool.{Bool, true, false}
 use mathlib.Core.List.{List, [], ◌∷◌, ◌++◌}
 use lib.ListN.{length, drop, length-append}
 use lib.Dec.{leb}
+use Rattle.std.specs.Prelude.{Err, Ok, Result}
 use Rattle.faults.specs.declared.Refusal.{Refusal}
 use Rattle.faults.specs.Faults.{no_room, bad_kind, oversize}
-use Rattle.wire.specs.declared.measure.Measure.{Measure}
 use Rattle.wire.specs.Bytes.{Bytes, be}
 use Rattle.wire.specs.Layout.{◌then◌}
 use Rattle.wire.specs.Grammar.{Token, Spells, Starts, placed}
@@ -31,12 +31,12 @@ use Rattle.listing.proofs.Deposits.{judged_read, judged_unread, read_listed, ref
 -- ---- what was lent
 
 -- a text and the slice determine the answer, and every byte of the slice
-pub answer_is_one : {text old last last' : List ℕ} {r s : Measure} → Lists text old r last → Lists text old s last' → (r ≡ s) × (last ≡ last')
+pub answer_is_one : {text old last last' : List ℕ} {r s : Result ℕ Refusal} → Lists text old r last → Lists text old s last' → (r ≡ s) × (last ≡ last')
 answer_is_one x y = (measure_answer_once _ _ (x.answer ∙ sym y.answer), x.buffer ∙ sym y.buffer)
 
-module _ {text old last : List ℕ} {r : Measure} (lists : Lists text old r last) where
+module _ {text old last : List ℕ} {r : Result ℕ Refusal} (lists : Lists text old r last) where
   -- where the listing fits it is there, all of it, and behind it what was there
-  pub whole_listing_is_there : length text ≤ length old → (r ≡ Measure.Size (length text)) × (last ≡ text ++ drop (length text) old)
+  pub whole_listing_is_there : length text ≤ length old → (r ≡ Ok (length text)) × (last ≡ text ++ drop (length text) old)
   whole_listing_is_there room =
       let enough = le-leb (length text) (length old) room in
       (measure_answer_once _ _ (lists.answer ∙ rw enough), lists.buffer ∙ rw enough)
@@ -46,7 +46,7 @@ module _ {text old last : List ℕ} {r : Measure} (lists : Lists text old r last
   every_listing_fits room = omega (arith, lists.most)
 
   -- where it does not fit nothing is changed, and the room that it needs is answered
-  pub too_little_room_changes_nothing : length old < length text → (r ≡ Measure.No (no_room 0 (length text))) × (last ≡ old)
+  pub too_little_room_changes_nothing : length old < length text → (r ≡ Err (no_room 0 (length text))) × (last ≡ old)
   too_little_room_changes_nothing short =
       let few = lt-leb (length text) (length old) short in
       (measure_answer_once _ _ (lists.answer ∙ rw few), lists.buffer ∙ rw few)
@@ -61,7 +61,7 @@ unfolding record_text
 no_listing_is_empty k bs = text_some k bs (judged k bs)
 
 -- so whoever lends no room at all is told how long the listing is
-pub no_room_asks_for_the_size : (k : ℕ) (bs : List ℕ) {last : List ℕ} {r : Measure} → Lists (record_text k bs) [] r last → r ≡ Measure.No (no_room 0 (length (record_text k bs)))
+pub no_room_asks_for_the_size : (k : ℕ) (bs : List ℕ) {last : List ℕ} {r : Result ℕ Refusal} → Lists (record_text k bs) [] r last → r ≡ Err (no_room 0 (length (record_text k bs)))
 no_room_asks_for_the_size k bs lists = (too_little_room_changes_nothing lists (no_listing_is_empty k bs)).0
 
 -- ---- what is listed

@@ -1,7 +1,7 @@
 -- What is listed of a deposit: a kind byte, and then the record. Assumes nothing.
-use Rattle.std.specs.Prelude.{ℕ, ◌-◌, ◌≤◌, ◌≡◌, Bool, true, false, cond, List, [], ◌∷◌, ◌++◌, length, drop, leb}
+use Rattle.std.specs.Prelude.{ℕ, ◌-◌, ◌≤◌, ◌≡◌, Bool, true, false, cond, List, [], ◌∷◌, ◌++◌, length, drop, leb, Result}
+use Rattle.faults.specs.declared.Refusal.{Refusal}
 use Rattle.faults.specs.Faults.{no_room, bad_kind, oversize}
-use Rattle.wire.specs.declared.measure.Measure.{Measure}
 use Rattle.wire.specs.Answers.{measure_answer}
 use Rattle.wire.specs.Records.{Ans, found, refused, Parsed}
 use Rattle.wire.specs.Reading.{read}
@@ -51,7 +51,7 @@ pub record Counts (text old : List ℕ) (r : ℕ) (last : List ℕ) : Type 0 whe
   pub puts : length text ≤ length old → last ≡ text ++ drop (length text) old
 
 -- What is owed to whoever has a text listed into a lent slice, which held old before and holds last now; r was answered
-pub record Lists (text old : List ℕ) (r : Measure) (last : List ℕ) : Type 0 where
+pub record Lists (text old : List ℕ) (r : Result ℕ Refusal) (last : List ℕ) : Type 0 where
   -- how long the text is, or, where the slice is smaller, how long it would have to be
   pub answer : measure_answer r ≡ cond (leb (length text) (length old)) (found (length text)) (refused (no_room 0 (length text)))
   -- the text and then what was there, or all that was there

@@ -8,11 +8,11 @@ use denote.Ref.{Bor}
 use lib.ListN.{length, take, drop}
 use lib.Seq.{take-take, drop-drop}
 use borrow.Author.Tests.{le-leb}
+use Rattle.std.specs.Prelude.{Ok, Err, Result}
 use Rattle.faults.specs.declared.Refusal.{Refusal}
 use Rattle.faults.specs.Faults.{placed_at, no_field}
-use Rattle.wire.specs.declared.measure.Measure.{Measure}
 use Rattle.wire.specs.declared.span.Span.{Span}
-use Rattle.wire.specs.Answers.{start_of, len_of, span_part, measure_answer}
+use Rattle.wire.specs.Answers.{start_of, len_of, span_part}
 use Rattle.wire.specs.Bytes.{Bytes, be}
 use Rattle.wire.specs.Records.{Part, num, tag, span, Ans, found, refused, next, Parsed}
 use Rattle.wire.specs.Reading.{Reader, walk, end_of, read}
@@ -21,16 +21,13 @@ use Rattle.wire.specs.Fields.{pick_field, part_of}
 use Rattle.wire.specs.Items.{pick_item, item_of}
 use Rattle.wire.specs.Places.{StandsAt, start_if, start_at, place_of, item_start}
 use Rattle.wire.proofs.Cuts.{cut_length}
-use Rattle.wire.proofs.Rest.{told}
 use Rattle.wire.proofs.Steps.{found_refused, found_same, refused_same, next_found}
 use Rattle.format.specs.declared.list.ListOf.{ListOf}
 use Rattle.format.specs.Kinds.{item_layout, most_items}
 use Rattle.steps.specs.declared.walk.Walk.{Walk}
-use Rattle.steps.specs.Near.{Near}
 use Rattle.steps.specs.Steps.{Items, spell_step}
 use Rattle.steps.specs.Walks.{after, seek_answer, seek_start}
 use Rattle.steps.proofs.Found.{found_seen, none_seen}
-use Rattle.lists.specs.declared.item.Place.{Place}
 use Rattle.lists.specs.Items.{item_answer, item_from, ItemInside, ItemBehind}
 use Rattle.items.proofs.Items.{item_ends}
 use Rattle.lists.proofs.Lists.{IsList}
@@ -89,32 +86,37 @@ end_of_part (span start len) = start + len
 pub new_span : {v : Span} {a b k m start len : ℕ} → span_part v ≡ span (a + b) k → a ≡ start → b ≡ m → k ≡ len → span_part v ≡ span (start + m) len
 new_span e p q r = rw (← p, ← q, ← r) e
 
-module _ (which : ListOf) (xs : List ℕ) (n i : ℕ) where
-  abbrev picked : Ans (List ℕ)
-  picked = pick_item (λ s a. read (item_layout which) s a) n i i xs 4
+-- ---- an item of a list that was judged
 
-  pub item_at_lem : {start e : ℕ} (t : Span) → Bytes xs → i < n → found start ≡ walk (λ s a. read (item_layout which) s a) i xs 4 → found e ≡ end_of (read (item_layout which) xs start) → span_part t ≡ span start (e - start)
-      → (cut xs (start_of t) (len_of t) 0 ≡ picked) × (start_of t + len_of t ≤ length xs) × (found (start_of t) ≡ walk (λ s a. read (item_layout which) s a) i xs 4)
+-- the item with the index i of the n items of xs, or why there is none
+abbrev pub Picked : (which : ListOf) (xs : List ℕ) (n i : ℕ) → Result Span Refusal → Type 0
+Picked which xs n i a = (item_answer a xs ≡ pick_item (λ s a. read (item_layout which) s a) n i i xs 4) × ItemInside a xs × ItemBehind a which i xs
+
+module _ (which : ListOf) (xs : List ℕ) (n i : ℕ) where
+  pub item_there : {start e : ℕ} (t : Span) → Bytes xs → i < n → found start ≡ walk (λ s a. read (item_layout which) s a) i xs 4 → found e ≡ end_of (read (item_layout which) xs start) → span_part t ≡ span start (e - start) → Picked which xs n i (Ok t)
   unfolding cut
-  item_at_lem {start} {e} t b h p q is =
+  item_there {start} {e} t b h p q is =
       let (ahead, inside) = item_ends which xs start b q in
       let shown : cut xs start (e - start) 0 ≡ found (take (e - start) (drop start xs)) = rw (le-leb (start + (e - start)) (length xs) (omega arith)) in
       (ap (cut_at xs) is ∙ shown ∙ ap (λ a. next a (λ e. found (take (e - start) (drop start xs)))) q ∙ sym (pick_from (λ s a. read (item_layout which) s a) xs i n i 4 h p), omega (arith, ap end_of_part is), ap (λ y. found (start_of_part y)) is ∙ p)
 
-  pub item_bad : {start : ℕ} {f : Refusal} → i < n → found start ≡ walk (λ s a. read (item_layout which) s a) i xs 4 → refused f ≡ end_of (read (item_layout which) xs start) → (refused f ≡ picked) × Unit {0} × Unit {0}
+  pub item_bad : {start : ℕ} {f : Refusal} → i < n → found start ≡ walk (λ s a. read (item_layout which) s a) i xs 4 → refused f ≡ end_of (read (item_layout which) xs start) → Picked which xs n i (Err f)
   item_bad {start} h p q = (ap (λ a. next a (λ e. found (take (e - start) (drop start xs)))) q ∙ sym (pick_from (λ s a. read (item_layout which) s a) xs i n i 4 h p), tt, tt)
 
-  pub item_lost : {f : Refusal} → i < n → refused f ≡ walk (λ s a. read (item_layout which) s a) i xs 4 → (refused f ≡ picked) × Unit {0} × Unit {0}
+  pub item_lost : {f : Refusal} → i < n → refused f ≡ walk (λ s a. read (item_layout which) s a) i xs 4 → Picked which xs n i (Err f)
   item_lost h p = (pick_lost (λ s a. read (item_layout which) s a) xs i n i 4 h p, tt, tt)
 
-  pub item_none : {e : ℕ} {f : Refusal} → n ≤ i → walk (λ s a. read (item_layout which) s a) n xs 4 ≡ found e → f ≡ no_field i → (refused f ≡ picked) × Unit {0} × Unit {0}
+  pub item_none : {e : ℕ} {f : Refusal} → n ≤ i → walk (λ s a. read (item_layout which) s a) n xs 4 ≡ found e → f ≡ no_field i → Picked which xs n i (Err f)
   item_none h w is = (ap refused is ∙ pick_none (λ s a. read (item_layout which) s a) xs i n i 4 h w, tt, tt)
 
 -- ---- the item's place
 
+-- the item with the index i of a list with the parts ls, and where it starts
+abbrev pub Placed : (which : ListOf) (ls : List Part) (i : ℕ) (src : List ℕ) → Result Span Refusal → Type 0
+Placed which ls i src a = (item_answer a src ≡ item_of (most_items which) (item_layout which) ls i src) × (item_from a src ≡ item_start (most_items which) (item_layout which) ls i src)
+
 -- an item that is refused starts nowhere
-no_start : (which : ListOf) (ls : List Part) (i : ℕ) (src : List ℕ) {f : Refusal} → refused f ≡ item_of (most_items which) (item_layout which) ls i src
-    → (refused f ≡ item_of (most_items which) (item_layout which) ls i src) × (0 ≡ item_start (most_items which) (item_layout which) ls i src)
+no_start : (which : ListOf) (ls : List Part) (i : ℕ) (src : List ℕ) {f : Refusal} → refused f ≡ item_of (most_items which) (item_layout which) ls i src → Placed which ls i src (Err f)
 unfolding item_start
 no_start which ls i src p = (p, rw (← p))
 
@@ -149,56 +151,44 @@ module _ (which : ListOf) (t : Span) (src : List ℕ) {xs : List ℕ} (is : IsLi
   unfolding item_of cut
   items_of i count = rw (le-leb (start_of t + len_of t) (length src) is.inside, ← is.same, is.legal, count)
 
-  -- the item that was walked to, or why there is none
-  module _ (i : ℕ) {n : ℕ} {a : Place} (count : n ≡ be (take 4 xs)) (walked : (item_answer a xs ≡ pick_item (λ s a. read (item_layout which) s a) n i i xs 4) × ItemInside a xs × ItemBehind a which i xs) where
-    pub item_inside : (s : Span) → a ≡ Place.At s → start_of s + len_of s ≤ length xs
-    item_inside s q = rw q at walked.1
+  module _ (i : ℕ) {n : ℕ} (count : n ≡ be (take 4 xs)) where
+    -- the item s that was walked to, as the part v of the source
+    module _ (s v : Span) (walked : Picked which xs n i (Ok s)) (new : span_part v ≡ span (start_of t + start_of s) (len_of s)) where
+      item_same : cut src (start_of v) (len_of v) 0 ≡ item_of (most_items which) (item_layout which) (span_part t ∷ []) i src
+      item_same = ap (cut_at src) new ∙ cut_of_part (start_of s) (len_of s) walked.1 ∙ walked.0 ∙ sym (items_of i count)
 
-    item_same : (s v : Span) → a ≡ Place.At s → span_part v ≡ span (start_of t + start_of s) (len_of s) → cut src (start_of v) (len_of v) 0 ≡ item_of (most_items which) (item_layout which) (span_part t ∷ []) i src
-    item_same s v q new =
-        ap (cut_at src) new ∙ cut_of_part (start_of s) (len_of s) (item_inside s q) ∙ told (λ x. item_answer x xs) q walked.0 ∙ sym (items_of i count)
+      -- it starts behind the items ahead of it
+      item_behind : start_of v ≡ start_at (span_part t ∷ []) 0 src + place_of (walk (λ s a. read (item_layout which) s a) i (part_of (pick_field (span_part t ∷ []) 0 i src)) 4)
+      unfolding cut
+      item_behind = ap start_of_part new ∙ rw (le-leb (start_of t + len_of t) (length src) is.inside, ← is.same) (ap (λ x. start_of t + place_of x) walked.2)
 
-    -- it starts behind the items ahead of it
-    item_behind : (s v : Span) → a ≡ Place.At s → span_part v ≡ span (start_of t + start_of s) (len_of s)
-        → start_of v ≡ start_at (span_part t ∷ []) 0 src + place_of (walk (λ s a. read (item_layout which) s a) i (part_of (pick_field (span_part t ∷ []) 0 i src)) 4)
-    unfolding cut
-    item_behind s v q new =
-        let behind : found (start_of s) ≡ walk (λ s a. read (item_layout which) s a) i xs 4 = rw q at walked.2 in
-        ap start_of_part new ∙ rw (le-leb (start_of t + len_of t) (length src) is.inside, ← is.same) (ap (λ x. start_of t + place_of x) behind)
+      pub item_found : Placed which (span_part t ∷ []) i src (Ok v)
+      unfolding item_start
+      item_found = (item_same, ap (λ x. start_if x (start_of v)) item_same ∙ ap (λ n. start_if (item_of (most_items which) (item_layout which) (span_part t ∷ []) i src) n) item_behind)
 
-    pub item_found : (s v : Span) → a ≡ Place.At s → span_part v ≡ span (start_of t + start_of s) (len_of s)
-        → (cut src (start_of v) (len_of v) 0 ≡ item_of (most_items which) (item_layout which) (span_part t ∷ []) i src)
-        × (start_if (cut src (start_of v) (len_of v) 0) (start_of v) ≡ item_start (most_items which) (item_layout which) (span_part t ∷ []) i src)
-    unfolding item_start
-    item_found s v q new =
-        let same = item_same s v q new in
-        (same, ap (λ x. start_if x (start_of v)) same ∙ ap (λ n. start_if (item_of (most_items which) (item_layout which) (span_part t ∷ []) i src) n) (item_behind s v q new))
-
-    pub item_refused : {f : Refusal} → a ≡ Place.No f
-        → (refused f ≡ item_of (most_items which) (item_layout which) (span_part t ∷ []) i src) × (0 ≡ item_start (most_items which) (item_layout which) (span_part t ∷ []) i src)
-    item_refused q = no_start which (span_part t ∷ []) i src (told (λ x. item_answer x xs) q walked.0 ∙ sym (items_of i count))
+    pub item_refused : {f : Refusal} → Picked which xs n i (Err f) → Placed which (span_part t ∷ []) i src (Err f)
+    item_refused walked = no_start which (span_part t ∷ []) i src (walked.0 ∙ sym (items_of i count))
 
 -- a list that is refused has no items
-pub no_items : (which : ListOf) (t : Span) (src : List ℕ) (i : ℕ) {m : Measure} {f : Refusal} → m ≡ Measure.No f → (measure_answer m ≡ after 0 (spell_step (Items which t) src 0)) × Near m 0
-    → refused f ≡ item_of (most_items which) (item_layout which) (span_part t ∷ []) i src
-unfolding spell_step item_of
-no_items which t src i {f = f} q p = by (cut src (start_of t) (len_of t) 0) (told measure_answer q p.0)
-  where
-    here : (g : Refusal) → g ≡ further 0 g
-    here g = ap (λ n. placed_at n g) (sym (zero-add g.place))
+module _ (which : ListOf) (t : Span) (src : List ℕ) (i : ℕ) {f : Refusal} (judged : refused f ≡ after 0 (spell_step (Items which t) src 0)) where
+  not_listed : refused f ≡ item_of (most_items which) (item_layout which) (span_part t ∷ []) i src
+  unfolding spell_step item_of
+  not_listed = by (cut src (start_of t) (len_of t) 0) judged
+    where
+      here : (g : Refusal) → g ≡ further 0 g
+      here g = ap (λ n. placed_at n g) (sym (zero-add g.place))
 
-    walked : (a : Ans (List ℕ)) (k : List ℕ → Ans (List ℕ)) → refused f ≡ after 0 (moved 0 a) → refused f ≡ next a k
-    walked (found xs) k q = absurd (found_refused q)
-    walked (refused g) k q = ap refused (refused_same q ∙ sym (here g))
+      walked : (a : Ans (List ℕ)) (k : List ℕ → Ans (List ℕ)) → refused f ≡ after 0 (moved 0 a) → refused f ≡ next a k
+      walked (found xs) k q = absurd (found_refused q)
+      walked (refused g) k q = ap refused (refused_same q ∙ sym (here g))
 
-    by : (a : Ans (List ℕ)) → refused f ≡ after 0 (next a (λ xs. moved 0 (whole (most_items which) (item_layout which) xs)))
-        → refused f ≡ next a (λ xs. next (whole (most_items which) (item_layout which) xs) (λ ys. pick_item (λ s a. read (item_layout which) s a) (be (take 4 ys)) i i ys 4))
-    by (found xs) q = walked (whole (most_items which) (item_layout which) xs) _ q
-    by (refused g) q = ap refused (refused_same q)
+      by : (a : Ans (List ℕ)) → refused f ≡ after 0 (next a (λ xs. moved 0 (whole (most_items which) (item_layout which) xs)))
+          → refused f ≡ next a (λ xs. next (whole (most_items which) (item_layout which) xs) (λ ys. pick_item (λ s a. read (item_layout which) s a) (be (take 4 ys)) i i ys 4))
+      by (found xs) q = walked (whole (most_items which) (item_layout which) xs) _ q
+      by (refused g) q = ap refused (refused_same q)
 
-pub no_items_start : (which : ListOf) (t : Span) (src : List ℕ) (i : ℕ) {m : Measure} {f : Refusal} → m ≡ Measure.No f → (measure_answer m ≡ after 0 (spell_step (Items which t) src 0)) × Near m 0
-    → 0 ≡ item_start (most_items which) (item_layout which) (span_part t ∷ []) i src
-no_items_start which t src i q p = (no_start which (span_part t ∷ []) i src (no_items which t src i q p)).1
+  pub no_items : Placed which (span_part t ∷ []) i src (Err f)
+  no_items = no_start which (span_part t ∷ []) i src not_listed
 
 -- ---- the items of the list that a walk found
 
@@ -222,12 +212,10 @@ module _ (which : ListOf) (w : Walk) (src : List ℕ) (i : ℕ) (ls : List Part)
 
   -- where it stands
   module _ (starts : start_at ls 0 src ≡ seek_start w src) {s r : Bor (List ℕ)} where
-    pub item_stands : (t : Span) (a b : Place) → a ≡ b → w.mode ≡ 5 → span_part t ≡ span w.at w.value → item_from a src ≡ item_start (most_items which) (item_layout which) (span_part t ∷ []) i src
-        → StandsAt s r (item_from b src) → StandsAt s r (item_start (most_items which) (item_layout which) ls i src)
-    item_stands t a b q m e p there =
-        let same : item_from b src ≡ item_start (most_items which) (item_layout which) ls i src = ap (λ x. item_from x src) (sym q) ∙ p
-        ∙ of_the_start which (span_part t ∷ []) ls i src (same_field t m e) (ap (λ y. y.1) (found_seen w src i t m e) ∙ sym starts) in
-        subst (λ n. StandsAt s r n) same there
+    pub item_stands : (t : Span) {n : ℕ} → w.mode ≡ 5 → span_part t ≡ span w.at w.value → n ≡ item_start (most_items which) (item_layout which) (span_part t ∷ []) i src
+        → StandsAt s r n → StandsAt s r (item_start (most_items which) (item_layout which) ls i src)
+    item_stands t m e p there =
+        subst (λ n. StandsAt s r n) (p ∙ of_the_start which (span_part t ∷ []) ls i src (same_field t m e) (ap (λ y. y.1) (found_seen w src i t m e) ∙ sym starts)) there
 
     pub none_stands : (w.mode ≡ 5 → ⊥) → StandsAt s r 0 → StandsAt s r (item_start (most_items which) (item_layout which) ls i src)
     unfolding item_of
@@ -235,9 +223,9 @@ module _ (which : ListOf) (w : Walk) (src : List ℕ) (i : ℕ) (ls : List Part)
 
 -- f is what is asked of the item: its bytes, or how many there are
 module _ {B : Type 0} (f : Ans (List ℕ) → B) (which : ListOf) (w : Walk) (src : List ℕ) (i : ℕ) (ls : List Part) (sought : pick_field ls 0 i src ≡ seek_answer w i src) where
-  pub list_item : (t : Span) (a b : Place) (z : B) → a ≡ b → w.mode ≡ 5 → span_part t ≡ span w.at w.value → item_answer a src ≡ item_of (most_items which) (item_layout which) (span_part t ∷ []) i src
-      → z ≡ f (item_answer b src) → z ≡ f (item_of (most_items which) (item_layout which) ls i src)
-  list_item t a b z q m e p s = s ∙ ap f (ap (λ x. item_answer x src) (sym q) ∙ p ∙ of_the_list which (span_part t ∷ []) ls i src (same_field which w src i ls sought t m e))
+  pub list_item : (t : Span) {a : Ans (List ℕ)} (z : B) → w.mode ≡ 5 → span_part t ≡ span w.at w.value → a ≡ item_of (most_items which) (item_layout which) (span_part t ∷ []) i src
+      → z ≡ f a → z ≡ f (item_of (most_items which) (item_layout which) ls i src)
+  list_item t z m e p s = s ∙ ap f (p ∙ of_the_list which (span_part t ∷ []) ls i src (same_field which w src i ls sought t m e))
 
   pub no_item : (z : B) → (w.mode ≡ 5 → ⊥) → z ≡ f (refused (no_field i)) → z ≡ f (item_of (most_items which) (item_layout which) ls i src)
   unfolding item_of

@@ -1,6 +1,5 @@
 -- Lists: one item behind the other, read, judged and listed. Assumes nothing.
 use Prim.Native.Nat.{ℕ, zero, suc, ◌+◌, ◌-◌, ◌≤◌, ◌<◌}
-use native.Mathlib.Nat.{sub-zero}
 use native.Mathlib.Omega.{arith}
 use mathlib.Core.Path.{◌≡◌, refl, sym, ap, ◌∙◌}
 use mathlib.Core.Bool.{Bool, true, false, cond}
@@ -9,9 +8,9 @@ use mathlib.Core.List.{List, [], ◌∷◌, ◌++◌}
 use lib.ListN.{length, take, drop}
 use lib.Dec.{leb, eqb}
 use borrow.Author.Tests.{leb-true, eq-eqb, ne_eqb}
+use Rattle.std.specs.Prelude.{Err, Ok, Result}
 use Rattle.faults.specs.declared.Refusal.{Refusal}
 use Rattle.faults.specs.Faults.{short, trailing}
-use Rattle.wire.specs.declared.measure.Measure.{Measure}
 use Rattle.wire.specs.declared.span.Span.{Span}
 use Rattle.wire.specs.Answers.{start_of, len_of, measure_answer}
 use Rattle.wire.specs.Bytes.{Bytes, be}
@@ -58,14 +57,6 @@ module _ (item : Reader Parsed) (src : List ℕ) where
     pub walk_on : {e : ℕ} → i < n → found e ≡ end_of (item src at) → walk item (n - (i + 1)) src e ≡ walk item (n - i) src at
     walk_on h p = rw (rest h) (ap (λ a. next a (λ e. walk item (n - (i + 1)) src e)) p ∙ sym (walk_next (n - (i + 1)) at))
 
-    -- an item was refused: so is the walk
-    pub walk_refused : {f : Refusal} → i < n → refused f ≡ end_of (item src at) → refused f ≡ walk item (n - i) src at
-    walk_refused h p = rw (rest h) (ap (λ a. next a (λ e. walk item (n - (i + 1)) src e)) p ∙ sym (walk_next (n - (i + 1)) at))
-
-    -- no item is left
-    pub walk_done : n ≤ i → found at ≡ walk item (n - i) src at
-    walk_done h = let none : n - i ≡ 0 = omega arith in rw none
-
 -- ---- the lines of items
 
 -- how far a walk over items goes
@@ -101,9 +92,6 @@ module _ (which : ListOf) (xs : List ℕ) (place : ℕ) where
     unfolding put_lines
     left_none done w = let none : n - i ≡ 0 = omega arith in sym (rw none at w.puts)
 
-  pub left_all : (n : ℕ) (h : Here) → walk (λ s a. read (item_layout which) s a) n xs 4 ≡ found (length xs) → Left which (n - 0) xs 4 place h (put_lines (left_lines which n xs 4 place) h)
-  left_all n h w = rw sub-zero (record { legal = w; puts = refl })
-
 -- ---- a list ends in the bytes that it was found in
 
 pub list_inside : (which : ListOf) (xs : List ℕ) {e : ℕ} → Bytes xs → found e ≡ list (most_items which) (λ s a. read (item_layout which) s a) xs 0 → e ≤ length xs
@@ -120,6 +108,10 @@ part_bytes src start len at same b = rw same (by (cut src start len at) refl)
     by (refused f) e = tt
 
 -- ---- a list in the part that its span shows
+
+-- what judging it at a place answered
+abbrev pub Judged : (which : ListOf) (t : Span) (src : List ℕ) (at : ℕ) → Result ℕ Refusal → Type 0
+Judged which t src at m = (measure_answer m ≡ after at (spell_step (Items which t) src at)) × Near m at
 
 module _ (which : ListOf) (t : Span) (src : List ℕ) (at : ℕ) where
   module _ {n : ℕ} {xs : List ℕ} (p : found n ≡ size_of (cut src (start_of t) (len_of t) at)) (q : xs ≡ part_of (cut src (start_of t) (len_of t) 0)) where
@@ -140,9 +132,9 @@ module _ (which : ListOf) (t : Span) (src : List ℕ) (at : ℕ) where
     unfolding spell_step whole
     list_no l = rw (sized_part src (start_of t) (len_of t) at p, ← q, ← l)
 
-  pub list_out : {f : Refusal} → refused f ≡ size_of (cut src (start_of t) (len_of t) at) → refused f ≡ after at (spell_step (Items which t) src at)
+  pub list_out : {f : Refusal} → refused f ≡ size_of (cut src (start_of t) (len_of t) at) → Judged which t src at (Err f)
   unfolding spell_step
-  list_out p = rw (unsized src (start_of t) (len_of t) at p)
+  list_out p = (rw (unsized src (start_of t) (len_of t) at p), tt)
 
 -- ---- a list that was judged
 
@@ -153,10 +145,10 @@ pub record IsList (which : ListOf) (t : Span) (src xs : List ℕ) : Type 0 where
   pub legal : whole (most_items which) (item_layout which) xs ≡ found xs
 
 module _ (which : ListOf) (t : Span) (src : List ℕ) where
-  pub is_list_lem : (at : ℕ) {m : Measure} {e : ℕ} {xs : List ℕ} → m ≡ Measure.Size e → (measure_answer m ≡ after at (spell_step (Items which t) src at)) × Near m at → xs ≡ part_of (cut src (start_of t) (len_of t) 0) → IsList which t src xs
+  pub is_list_lem : (at : ℕ) {e : ℕ} {xs : List ℕ} → found e ≡ after at (spell_step (Items which t) src at) → xs ≡ part_of (cut src (start_of t) (len_of t) 0) → IsList which t src xs
   unfolding spell_step cut
-  is_list_lem at q p part =
-      let (bs, e, f) = next_found (next (cut src (start_of t) (len_of t) at) (λ xs. moved at (whole (most_items which) (item_layout which) xs))) _ (sym (told measure_answer q p.0)) in
+  is_list_lem at p part =
+      let (bs, e, f) = next_found (next (cut src (start_of t) (len_of t) at) (λ xs. moved at (whole (most_items which) (item_layout which) xs))) _ (sym p) in
       let (ys, g, h) = next_found (cut src (start_of t) (len_of t) at) _ e in
       let (test, shown) = when_found (leb (start_of t + len_of t) (length src)) _ _ g in
       let there : start_of t + len_of t ≤ length src = leb-true (start_of t + len_of t) (length src) test in
@@ -205,19 +197,19 @@ module _ (which : ListOf) (t : Span) (src : List ℕ) (w : Walk) (old : List ℕ
   pub list_lines_far : 0x10000 < w.at → here w old ≡ line_step (Items which t) src w old
   list_lines_far h = lines_far (Items which t) 0x10000 src w old once h
 
-  module _ {m : Measure} (judge : (measure_answer m ≡ after w.at (spell_step (Items which t) src w.at)) × Near m w.at) (near : w.at ≤ 0x10000) where
-    pub list_lined : {stop n k : ℕ} {xs : List ℕ} {v u z : Walk} {mid last : List ℕ} → m ≡ Measure.Size stop → IsList which t src xs → n ≡ be (take 4 xs) → k ≡ n → here v mid ≡ put_line (line w.at 4 (a_number k)) (here w old)
+  module _ {m : Result ℕ Refusal} (judge : Judged which t src w.at m) (near : w.at ≤ 0x10000) where
+    pub list_lined : {stop n k : ℕ} {xs : List ℕ} {v u z : Walk} {mid last : List ℕ} → m ≡ Ok stop → IsList which t src xs → n ≡ be (take 4 xs) → k ≡ n → here v mid ≡ put_line (line w.at 4 (a_number k)) (here w old)
         → here u last ≡ put_lines (left_lines which n xs 4 w.at) (here v mid) → z ≡ to_place stop u → here z last ≡ line_step (Items which t) src w old
     list_lined {stop} {n} {k} {xs} {v} {u} {z} {mid} {last} e is count same p q r =
         lines_good (Items which t) 0x10000 src w old once m m refl judge near z u last stop e (list_lines_lem which t src w.at n k xs (here w old) (here v mid) (here u last) is count same p q) r
 
-    pub list_not_lined : (z : Walk) {f : Refusal} → m ≡ Measure.No f → z ≡ refusing f → here z old ≡ line_step (Items which t) src w old
+    pub list_not_lined : (z : Walk) {f : Refusal} → m ≡ Err f → z ≡ refusing f → here z old ≡ line_step (Items which t) src w old
     list_not_lined z {f} e q = lines_bad (Items which t) 0x10000 src w old once m m refl judge near z f e q
 
 -- ---- the walk over a list, by what it is for
 
 module _ (w : Walk) (which : ListOf) (t : Span) (src out : List ℕ) where
-  pub list_judged : (m : Measure) (r : Walk) → w.mode ≡ 0 → w.at ≤ 0x1000000 → (measure_answer m ≡ after w.at (spell_step (Items which t) src w.at)) × Near m w.at → r ≡ judged (measure_answer m)
+  pub list_judged : (m : Result ℕ Refusal) (r : Walk) → w.mode ≡ 0 → w.at ≤ 0x1000000 → Judged which t src w.at m → r ≡ judged (measure_answer m)
       → Goes (Items which t ∷ []) src (here w out) (here r out)
   unfolding judge_step
   list_judged m r e h told p = step_judged w (Items which t) t src out (λ u. refl) m r e h told p

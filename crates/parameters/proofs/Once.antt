@@ -1,20 +1,13 @@
--- The parts of each type determine it, and no two answers of this crate mean the same. Assumes nothing.
+-- The parts of each type determine it. Assumes nothing.
 use mathlib.Core.Path.{refl}
 use mathlib.Core.List.{[], ◌∷◌}
-use Rattle.wire.proofs.Once.{Injective, Once, number_once, both, fields, holds, bare, union, answers}
+use Rattle.wire.proofs.Once.{Once, number_once, both, fields, holds, bare, union}
 use Rattle.codes.specs.Codes.{rsa, keyed_hash, null, ecc, sym_cipher}
 use Rattle.codes.proofs.Once.{tpm_alg_id_once, tpm_ecc_curve_once}
 use Rattle.ciphers.proofs.Once.{tpmt_sym_def_once}
 use Rattle.schemes.proofs.Once.{tpmt_kdf_scheme_once, tpmt_keyedhash_scheme_once, tpmt_rsa_scheme_once, tpmt_ecc_scheme_once}
-use Rattle.parameters.specs.declared.tpms.TpmsKeyedhashParmsRead.{TpmsKeyedhashParmsRead}
-use Rattle.parameters.specs.declared.tpms.TpmsSymcipherParmsRead.{TpmsSymcipherParmsRead}
-use Rattle.parameters.specs.declared.tpms.TpmsRsaParmsRead.{TpmsRsaParmsRead}
-use Rattle.parameters.specs.declared.tpms.TpmsEccParmsRead.{TpmsEccParmsRead}
 use Rattle.parameters.specs.declared.tpmu.TpmuPublicParms.{TpmuPublicParms}
-use Rattle.parameters.specs.declared.tpmu.TpmuPublicParmsRead.{TpmuPublicParmsRead}
-use Rattle.parameters.specs.declared.tpmt.TpmtPublicParmsRead.{TpmtPublicParmsRead}
 use Rattle.parameters.specs.Parts.{tpms_keyedhash_parms_parts, tpms_symcipher_parms_parts, tpms_rsa_parms_parts, tpms_ecc_parms_parts, tpmu_public_parms_parts, tpmt_public_parms_parts}
-use Rattle.parameters.specs.Answers.{tpms_keyedhash_parms_answer, tpms_symcipher_parms_answer, tpms_rsa_parms_answer, tpms_ecc_parms_answer, tpmu_public_parms_answer, tpmt_public_parms_answer}
 
 -- ---- structures
 
@@ -53,23 +46,3 @@ tpmu_public_parms_once =
 
 pub tpmt_public_parms_once : Once tpmt_public_parms_parts
 tpmt_public_parms_once = fields (λ s. (s.object_type, s.parameters)) (λ (a, b). record { object_type = a; parameters = b }) (λ s. refl) (both tpm_alg_id_once tpmu_public_parms_once)
-
--- ---- answers
-
-pub tpms_keyedhash_parms_answer_once : Injective tpms_keyedhash_parms_answer
-tpms_keyedhash_parms_answer_once = answers tpms_keyedhash_parms_once TpmsKeyedhashParmsRead.Found TpmsKeyedhashParmsRead.No tpms_keyedhash_parms_answer (λ back. elim [ TpmsKeyedhashParmsRead.Found x e ↦ back x e | TpmsKeyedhashParmsRead.No f ↦ refl ])
-
-pub tpms_symcipher_parms_answer_once : Injective tpms_symcipher_parms_answer
-tpms_symcipher_parms_answer_once = answers tpms_symcipher_parms_once TpmsSymcipherParmsRead.Found TpmsSymcipherParmsRead.No tpms_symcipher_parms_answer (λ back. elim [ TpmsSymcipherParmsRead.Found x e ↦ back x e | TpmsSymcipherParmsRead.No f ↦ refl ])
-
-pub tpms_rsa_parms_answer_once : Injective tpms_rsa_parms_answer
-tpms_rsa_parms_answer_once = answers tpms_rsa_parms_once TpmsRsaParmsRead.Found TpmsRsaParmsRead.No tpms_rsa_parms_answer (λ back. elim [ TpmsRsaParmsRead.Found x e ↦ back x e | TpmsRsaParmsRead.No f ↦ refl ])
-
-pub tpms_ecc_parms_answer_once : Injective tpms_ecc_parms_answer
-tpms_ecc_parms_answer_once = answers tpms_ecc_parms_once TpmsEccParmsRead.Found TpmsEccParmsRead.No tpms_ecc_parms_answer (λ back. elim [ TpmsEccParmsRead.Found x e ↦ back x e | TpmsEccParmsRead.No f ↦ refl ])
-
-pub tpmu_public_parms_answer_once : Injective tpmu_public_parms_answer
-tpmu_public_parms_answer_once = answers tpmu_public_parms_once TpmuPublicParmsRead.Found TpmuPublicParmsRead.No tpmu_public_parms_answer (λ back. elim [ TpmuPublicParmsRead.Found x e ↦ back x e | TpmuPublicParmsRead.No f ↦ refl ])
-
-pub tpmt_public_parms_answer_once : Injective tpmt_public_parms_answer
-tpmt_public_parms_answer_once = answers tpmt_public_parms_once TpmtPublicParmsRead.Found TpmtPublicParmsRead.No tpmt_public_parms_answer (λ back. elim [ TpmtPublicParmsRead.Found x e ↦ back x e | TpmtPublicParmsRead.No f ↦ refl ])

@@ -1,20 +1,15 @@
 // The structures of parameters.
-ghost use Rattle.std.specs.Prelude.{◌≡◌, []};
-ghost use Rattle.wire.specs.Reading.{read};
+ghost use Rattle.std.specs.Prelude.{[], refl};
 ghost use Rattle.format.specs.Kinds.{tpmt_sym_def, tpmt_keyedhash_scheme, tpms_rsa_parms, tpms_ecc_parms};
-ghost use Rattle.steps.specs.Walks.{here, Walks};
-ghost use Rattle.parameters.specs.Answers.{tpms_keyedhash_parms_answer, tpms_symcipher_parms_answer, tpms_rsa_parms_answer, tpms_ecc_parms_answer};
 ghost use Rattle.parameters.specs.Parts.{tpms_keyedhash_parms_parts, tpms_symcipher_parms_parts, tpms_rsa_parms_parts, tpms_ecc_parms_parts};
 
-use ciphers::tpmt::{TpmtSymDef, TpmtSymDefRead};
-use codes::uint::{Uint16Read, Uint32Read, uint16, uint32};
-use codes::{TpmEccCurve, TpmEccCurveRead};
-use faults::Refusal;
-use schemes::tpmt::{
-    TpmtEccScheme, TpmtEccSchemeRead, TpmtKdfScheme, TpmtKdfSchemeRead, TpmtKeyedhashScheme,
-    TpmtKeyedhashSchemeRead, TpmtRsaScheme, TpmtRsaSchemeRead,
-};
+use ciphers::tpmt::TpmtSymDef;
+use codes::TpmEccCurve;
+use schemes::tpmt::{TpmtEccScheme, TpmtKdfScheme, TpmtKeyedhashScheme, TpmtRsaScheme};
+use steps::marshal::TpmMarshal;
 use steps::walk::Walk;
+use wire::read::Read;
+use wire::unmarshal::TpmUnmarshal;
 
 #[derive(Clone, Copy)]
 pub struct TpmsKeyedhashParms {
@@ -42,111 +37,70 @@ pub struct TpmsEccParms {
     pub kdf: TpmtKdfScheme,
 }
 
-#[derive(Clone, Copy)]
-pub enum TpmsKeyedhashParmsRead {
-    Found(TpmsKeyedhashParms, usize),
-    No(Refusal),
-}
+impl TpmUnmarshal for TpmsKeyedhashParms {
+    ghost layout = { tpmt_keyedhash_scheme };
 
-#[derive(Clone, Copy)]
-pub enum TpmsSymcipherParmsRead {
-    Found(TpmsSymcipherParms, usize),
-    No(Refusal),
-}
+    ghost parts = { tpms_keyedhash_parms_parts };
 
-#[derive(Clone, Copy)]
-pub enum TpmsRsaParmsRead {
-    Found(TpmsRsaParms, usize),
-    No(Refusal),
-}
-
-#[derive(Clone, Copy)]
-pub enum TpmsEccParmsRead {
-    Found(TpmsEccParms, usize),
-    No(Refusal),
-}
-
-impl TpmsKeyedhashParms {
     // TPMS_KEYEDHASH_PARMS, read.
-    pub fn unmarshal(s: &[u8], at: usize) -> TpmsKeyedhashParmsRead
-        ensures { tpms_keyedhash_parms_answer result ≡ read tpmt_keyedhash_scheme s.now at }
-    {
-        let mut end = at;
-        let scheme = match TpmtKeyedhashScheme::unmarshal(s, end) {
-            TpmtKeyedhashSchemeRead::Found(v, e) => {
-                end = e;
-                v
-            }
-            TpmtKeyedhashSchemeRead::No(f) => return TpmsKeyedhashParmsRead::No(f),
-        };
-        TpmsKeyedhashParmsRead::Found(Self { scheme }, end)
+    fn unmarshal(s: &[u8], at: usize) -> Read<Self> {
+        let (scheme, end) = TpmtKeyedhashScheme::unmarshal(s, at)?;
+        Ok((Self { scheme }, end))
     }
+}
 
-    pub fn walk(self, w: Walk, src: &[u8], out: &mut [u8]) -> Walk
-        ensures { Walks 4 tpmt_keyedhash_scheme (tpms_keyedhash_parms_parts self) [] src.now (here w out.old) (here result out.new) }
-    {
+impl TpmMarshal for TpmsKeyedhashParms {
+    ghost lists = { λ _. [] };
+
+    ghost one_list = { λ _. refl };
+
+    ghost steps = { 4 };
+
+    ghost few = { refl };
+
+    fn walk(self, w: Walk, src: &[u8], out: &mut [u8]) -> Walk {
         self.scheme.walk(w, src, out)
     }
 }
 
-impl TpmsSymcipherParms {
-    // TPMS_SYMCIPHER_PARMS, read.
-    pub fn unmarshal(s: &[u8], at: usize) -> TpmsSymcipherParmsRead
-        ensures { tpms_symcipher_parms_answer result ≡ read tpmt_sym_def s.now at }
-    {
-        let mut end = at;
-        let sym = match TpmtSymDef::unmarshal(s, end) {
-            TpmtSymDefRead::Found(v, e) => {
-                end = e;
-                v
-            }
-            TpmtSymDefRead::No(f) => return TpmsSymcipherParmsRead::No(f),
-        };
-        TpmsSymcipherParmsRead::Found(Self { sym }, end)
-    }
+impl TpmUnmarshal for TpmsSymcipherParms {
+    ghost layout = { tpmt_sym_def };
 
-    pub fn walk(self, w: Walk, src: &[u8], out: &mut [u8]) -> Walk
-        ensures { Walks 5 tpmt_sym_def (tpms_symcipher_parms_parts self) [] src.now (here w out.old) (here result out.new) }
-    {
+    ghost parts = { tpms_symcipher_parms_parts };
+
+    // TPMS_SYMCIPHER_PARMS, read.
+    fn unmarshal(s: &[u8], at: usize) -> Read<Self> {
+        let (sym, end) = TpmtSymDef::unmarshal(s, at)?;
+        Ok((Self { sym }, end))
+    }
+}
+
+impl TpmMarshal for TpmsSymcipherParms {
+    ghost lists = { λ _. [] };
+
+    ghost one_list = { λ _. refl };
+
+    ghost steps = { 5 };
+
+    ghost few = { refl };
+
+    fn walk(self, w: Walk, src: &[u8], out: &mut [u8]) -> Walk {
         self.sym.walk(w, src, out)
     }
 }
 
-impl TpmsRsaParms {
+impl TpmUnmarshal for TpmsRsaParms {
+    ghost layout = { tpms_rsa_parms };
+
+    ghost parts = { tpms_rsa_parms_parts };
+
     // TPMS_RSA_PARMS, read.
-    pub fn unmarshal(s: &[u8], at: usize) -> TpmsRsaParmsRead
-        ensures { tpms_rsa_parms_answer result ≡ read tpms_rsa_parms s.now at }
-    {
-        let mut end = at;
-        let symmetric = match TpmtSymDef::unmarshal(s, end) {
-            TpmtSymDefRead::Found(v, e) => {
-                end = e;
-                v
-            }
-            TpmtSymDefRead::No(f) => return TpmsRsaParmsRead::No(f),
-        };
-        let scheme = match TpmtRsaScheme::unmarshal(s, end) {
-            TpmtRsaSchemeRead::Found(v, e) => {
-                end = e;
-                v
-            }
-            TpmtRsaSchemeRead::No(f) => return TpmsRsaParmsRead::No(f),
-        };
-        let key_bits = match uint16(s, end) {
-            Uint16Read::Found(v, e) => {
-                end = e;
-                v
-            }
-            Uint16Read::No(f) => return TpmsRsaParmsRead::No(f),
-        };
-        let exponent = match uint32(s, end) {
-            Uint32Read::Found(v, e) => {
-                end = e;
-                v
-            }
-            Uint32Read::No(f) => return TpmsRsaParmsRead::No(f),
-        };
-        TpmsRsaParmsRead::Found(
+    fn unmarshal(s: &[u8], at: usize) -> Read<Self> {
+        let (symmetric, end) = TpmtSymDef::unmarshal(s, at)?;
+        let (scheme, end) = TpmtRsaScheme::unmarshal(s, end)?;
+        let (key_bits, end) = u16::unmarshal(s, end)?;
+        let (exponent, end) = u32::unmarshal(s, end)?;
+        Ok((
             Self {
                 symmetric,
                 scheme,
@@ -154,53 +108,38 @@ impl TpmsRsaParms {
                 exponent,
             },
             end,
-        )
-    }
-
-    pub fn walk(self, w: Walk, src: &[u8], out: &mut [u8]) -> Walk
-        ensures { Walks 11 tpms_rsa_parms (tpms_rsa_parms_parts self) [] src.now (here w out.old) (here result out.new) }
-    {
-        let v = self.symmetric.walk(w, src, out);
-        let u = self.scheme.walk(v, src, out);
-        u.uint16(self.key_bits, out).uint32(self.exponent, out)
+        ))
     }
 }
 
-impl TpmsEccParms {
+impl TpmMarshal for TpmsRsaParms {
+    ghost lists = { λ _. [] };
+
+    ghost one_list = { λ _. refl };
+
+    ghost steps = { 11 };
+
+    ghost few = { refl };
+
+    fn walk(self, w: Walk, src: &[u8], out: &mut [u8]) -> Walk {
+        let v = self.symmetric.walk(w, src, out);
+        let u = self.scheme.walk(v, src, out);
+        u.number(self.key_bits, out).number(self.exponent, out)
+    }
+}
+
+impl TpmUnmarshal for TpmsEccParms {
+    ghost layout = { tpms_ecc_parms };
+
+    ghost parts = { tpms_ecc_parms_parts };
+
     // TPMS_ECC_PARMS, read.
-    pub fn unmarshal(s: &[u8], at: usize) -> TpmsEccParmsRead
-        ensures { tpms_ecc_parms_answer result ≡ read tpms_ecc_parms s.now at }
-    {
-        let mut end = at;
-        let symmetric = match TpmtSymDef::unmarshal(s, end) {
-            TpmtSymDefRead::Found(v, e) => {
-                end = e;
-                v
-            }
-            TpmtSymDefRead::No(f) => return TpmsEccParmsRead::No(f),
-        };
-        let scheme = match TpmtEccScheme::unmarshal(s, end) {
-            TpmtEccSchemeRead::Found(v, e) => {
-                end = e;
-                v
-            }
-            TpmtEccSchemeRead::No(f) => return TpmsEccParmsRead::No(f),
-        };
-        let curve_id = match TpmEccCurve::unmarshal(s, end) {
-            TpmEccCurveRead::Found(v, e) => {
-                end = e;
-                v
-            }
-            TpmEccCurveRead::No(f) => return TpmsEccParmsRead::No(f),
-        };
-        let kdf = match TpmtKdfScheme::unmarshal(s, end) {
-            TpmtKdfSchemeRead::Found(v, e) => {
-                end = e;
-                v
-            }
-            TpmtKdfSchemeRead::No(f) => return TpmsEccParmsRead::No(f),
-        };
-        TpmsEccParmsRead::Found(
+    fn unmarshal(s: &[u8], at: usize) -> Read<Self> {
+        let (symmetric, end) = TpmtSymDef::unmarshal(s, at)?;
+        let (scheme, end) = TpmtEccScheme::unmarshal(s, end)?;
+        let (curve_id, end) = TpmEccCurve::unmarshal(s, end)?;
+        let (kdf, end) = TpmtKdfScheme::unmarshal(s, end)?;
+        Ok((
             Self {
                 symmetric,
                 scheme,
@@ -208,14 +147,22 @@ impl TpmsEccParms {
                 kdf,
             },
             end,
-        )
+        ))
     }
+}
 
-    pub fn walk(self, w: Walk, src: &[u8], out: &mut [u8]) -> Walk
-        ensures { Walks 13 tpms_ecc_parms (tpms_ecc_parms_parts self) [] src.now (here w out.old) (here result out.new) }
-    {
+impl TpmMarshal for TpmsEccParms {
+    ghost lists = { λ _. [] };
+
+    ghost one_list = { λ _. refl };
+
+    ghost steps = { 13 };
+
+    ghost few = { refl };
+
+    fn walk(self, w: Walk, src: &[u8], out: &mut [u8]) -> Walk {
         let v = self.symmetric.walk(w, src, out);
         let u = self.scheme.walk(v, src, out);
-        self.kdf.walk(u.curve(self.curve_id, out), src, out)
+        self.kdf.walk(u.code(self.curve_id, out), src, out)
     }
 }

@@ -1,21 +1,20 @@
 // The union of parameters, by the key's type. It has the calls that a union has (ciphers, tpmu.rt).
 ghost use Rattle.std.specs.Prelude.{◌≡◌, []};
+ghost use Rattle.wire.specs.Answers.{answer};
 ghost use Rattle.wire.specs.Reading.{read};
 ghost use Rattle.wire.specs.Unions.{is_arm, held};
 ghost use Rattle.format.specs.Kinds.{tpmu_public_parms_arm, tpmu_public_parms};
 ghost use Rattle.steps.specs.Walks.{here, Walks};
 ghost use Rattle.parameters.specs.Parts.{tpmu_public_parms_parts};
-ghost use Rattle.parameters.specs.Answers.{tpmu_public_parms_answer};
 
-use crate::tpms::{
-    TpmsEccParms, TpmsEccParmsRead, TpmsKeyedhashParms, TpmsKeyedhashParmsRead, TpmsRsaParms,
-    TpmsRsaParmsRead, TpmsSymcipherParms, TpmsSymcipherParmsRead,
-};
-use codes::{TpmAlgId, registry};
+use crate::tpms::{TpmsEccParms, TpmsKeyedhashParms, TpmsRsaParms, TpmsSymcipherParms};
+use codes::TpmAlgId;
 use faults::Refusal;
 use format::arms::public_parms_arm;
+use steps::marshal::TpmMarshal;
 use steps::walk::Walk;
-use wire::widen::wide;
+use wire::read::Read;
+use wire::unmarshal::TpmUnmarshal;
 
 #[derive(Clone, Copy)]
 pub enum TpmuPublicParms {
@@ -26,62 +25,48 @@ pub enum TpmuPublicParms {
     Null,
 }
 
-#[derive(Clone, Copy)]
-pub enum TpmuPublicParmsRead {
-    Found(TpmuPublicParms, usize),
-    No(Refusal),
-}
-
 impl TpmuPublicParms {
-    pub fn unmarshal_tagged(tag: TpmAlgId, s: &[u8], at: usize) -> TpmuPublicParmsRead
-        ensures { tpmu_public_parms_answer result ≡ read (tpmu_public_parms tag.0) s.now at }
+    pub fn unmarshal_tagged(tag: TpmAlgId, s: &[u8], at: usize) -> Read<TpmuPublicParms>
+        ensures { answer tpmu_public_parms_parts result ≡ read (tpmu_public_parms tag.0) s.now at }
     {
-        let v = tag.0;
-        match v {
-            registry::KEYED_HASH => match TpmsKeyedhashParms::unmarshal(s, at) {
-                TpmsKeyedhashParmsRead::Found(x, e) => TpmuPublicParmsRead::Found(
-                    Self::KeyedHash(x),
-                    e,
-                ),
-                TpmsKeyedhashParmsRead::No(f) => TpmuPublicParmsRead::No(f),
-            },
-            registry::SYM_CIPHER => match TpmsSymcipherParms::unmarshal(s, at) {
-                TpmsSymcipherParmsRead::Found(x, e) => TpmuPublicParmsRead::Found(
-                    Self::SymCipher(x),
-                    e,
-                ),
-                TpmsSymcipherParmsRead::No(f) => TpmuPublicParmsRead::No(f),
-            },
-            registry::RSA => match TpmsRsaParms::unmarshal(s, at) {
-                TpmsRsaParmsRead::Found(x, e) => TpmuPublicParmsRead::Found(Self::Rsa(x), e),
-                TpmsRsaParmsRead::No(f) => TpmuPublicParmsRead::No(f),
-            },
-            registry::ECC => match TpmsEccParms::unmarshal(s, at) {
-                TpmsEccParmsRead::Found(x, e) => TpmuPublicParmsRead::Found(Self::Ecc(x), e),
-                TpmsEccParmsRead::No(f) => TpmuPublicParmsRead::No(f),
-            },
-            registry::NULL => TpmuPublicParmsRead::Found(Self::Null, at),
-            _ => TpmuPublicParmsRead::No(Refusal::no_arm(at, wide(v))),
+        match tag {
+            TpmAlgId::KeyedHash => {
+                let (x, end) = TpmsKeyedhashParms::unmarshal(s, at)?;
+                Ok((Self::KeyedHash(x), end))
+            }
+            TpmAlgId::SymCipher => {
+                let (x, end) = TpmsSymcipherParms::unmarshal(s, at)?;
+                Ok((Self::SymCipher(x), end))
+            }
+            TpmAlgId::Rsa => {
+                let (x, end) = TpmsRsaParms::unmarshal(s, at)?;
+                Ok((Self::Rsa(x), end))
+            }
+            TpmAlgId::Ecc => {
+                let (x, end) = TpmsEccParms::unmarshal(s, at)?;
+                Ok((Self::Ecc(x), end))
+            }
+            TpmAlgId::Null => Ok((Self::Null, at)),
+            _ => Err(Refusal::no_arm(at, u64::from(tag.0))),
         }
     }
 
     pub fn matches_tag(self, tag: TpmAlgId) -> bool
         ensures { result ≡ is_arm (tpmu_public_parms_arm tag.0) (held (tpmu_public_parms_parts self)) }
     {
-        let v = tag.0;
         match self {
-            Self::KeyedHash(_) => v == registry::KEYED_HASH,
-            Self::SymCipher(_) => v == registry::SYM_CIPHER,
-            Self::Rsa(_) => v == registry::RSA,
-            Self::Ecc(_) => v == registry::ECC,
-            Self::Null => v == registry::NULL,
+            Self::KeyedHash(_) => tag.0 == TpmAlgId::KeyedHash.0,
+            Self::SymCipher(_) => tag.0 == TpmAlgId::SymCipher.0,
+            Self::Rsa(_) => tag.0 == TpmAlgId::Rsa.0,
+            Self::Ecc(_) => tag.0 == TpmAlgId::Ecc.0,
+            Self::Null => tag.0 == TpmAlgId::Null.0,
         }
     }
 
     pub fn walk_tagged(self, tag: TpmAlgId, w: Walk, src: &[u8], out: &mut [u8]) -> Walk
         ensures { Walks 14 (tpmu_public_parms tag.0) (tpmu_public_parms_parts self) [] src.now (here w out.old) (here result out.new) }
     {
-        let v = w.due(tag.0, public_parms_arm(tag), self.matches_tag(tag));
+        let v = w.due(tag, public_parms_arm(tag), self.matches_tag(tag));
         match self {
             Self::KeyedHash(x) => x.walk(v, src, out),
             Self::SymCipher(x) => x.walk(v, src, out),

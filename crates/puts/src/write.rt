@@ -7,7 +7,6 @@ ghost use Rattle.wire.specs.Writing.{cut};
 ghost use Rattle.wire.specs.Filling.{written, filled};
 
 use faults::Refusal;
-use wire::measure::Measure;
 use wire::read::left;
 use wire::span::Span;
 use wire::width::Width;
@@ -25,51 +24,45 @@ fn put_digits(n: u64, w: usize, out: &mut [u8], at: usize)
     ensures { out.new ≡ take at out.old ++ (digits w n ++ drop (at + w) out.old) }
 {
     let mut m = n;
-    let mut j = w;
-    while 0 < j {
-        j -= 1;
-        out[at + j] = low(m);
+    for i in 0..w {
+        out[at + (w - 1 - i)] = low(m);
         m = m / 256;
     }
 }
 
 // The last digits of n, as many as the width has, at the place `at` of out; none if they do not fit there.
-pub fn put_number(n: u64, w: Width, out: &mut [u8], at: usize) -> Measure
+pub fn put_number(n: u64, w: Width, out: &mut [u8], at: usize) -> Result<usize, Refusal>
     ensures { (measure_answer result ≡ written at (found (digits (width_of w) n)) out.old)
         × (out.new ≡ filled at (found (digits (width_of w) n)) out.old) }
 {
     let count = w.bytes();
     if count <= left(out.len(), at) {
         put_digits(n, count, out, at);
-        return Measure::Size(count);
+        return Ok(count);
     }
-    Measure::No(Refusal::no_room(at, count))
+    Err(Refusal::no_room(at, count))
 }
 
 // All bytes of xs at the place `at` of out; none if they do not fit there.
-pub fn put_bytes(xs: &[u8], out: &mut [u8], at: usize) -> Measure
+pub fn put_bytes(xs: &[u8], out: &mut [u8], at: usize) -> Result<usize, Refusal>
     ensures { (measure_answer result ≡ written at (found xs.now) out.old)
         × (out.new ≡ filled at (found xs.now) out.old) }
 {
     let len = xs.len();
     if len <= left(out.len(), at) {
-        let mut i: usize = 0;
-        while i < len {
+        for i in 0..len {
             out[at + i] = xs[i];
-            i += 1;
         }
-        return Measure::Size(len);
+        return Ok(len);
     }
-    Measure::No(Refusal::no_room(at, len))
+    Err(Refusal::no_room(at, len))
 }
 
 // The bytes of a span of src at the place `at` of out; none if src has no such span, or they do not fit there.
-pub fn put_span(span: Span, src: &[u8], out: &mut [u8], at: usize) -> Measure
+pub fn put_span(span: Span, src: &[u8], out: &mut [u8], at: usize) -> Result<usize, Refusal>
     ensures { (measure_answer result ≡ written at (cut src.now (start_of span) (len_of span) at) out.old)
         × (out.new ≡ filled at (cut src.now (start_of span) (len_of span) at) out.old) }
 {
-    match span.measure(src, at) {
-        Measure::Size(_) => put_bytes(span.part(src), out, at),
-        Measure::No(f) => Measure::No(f),
-    }
+    span.measure(src, at)?;
+    put_bytes(span.part(src), out, at)
 }

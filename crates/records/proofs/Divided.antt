@@ -7,9 +7,9 @@ use mathlib.Core.Logic.{◌⊎◌, inl, inr}
 use mathlib.Core.Bool.{true}
 use mathlib.Core.List.{List, ◌++◌}
 use lib.ListN.{length, drop}
+use Rattle.std.specs.Prelude.{Err, Ok, Result}
 use Rattle.faults.specs.declared.Refusal.{Refusal}
 use Rattle.faults.specs.Faults.{no_room}
-use Rattle.wire.specs.declared.measure.Measure.{Measure}
 use Rattle.wire.specs.Answers.{measure_answer}
 use Rattle.wire.specs.Bytes.{Bytes}
 use Rattle.wire.specs.Records.{found, refused}
@@ -35,26 +35,26 @@ row_had k src (no_kind lacks same) = rw same (other_had (other 10 refl refl))
 row_had k src {f} (no_record {xs = xs} some run stands inside first) = refused_says_what_it_had (layout_of k) src (length xs) f (refuses_read first)
 
 -- whoever counts
-module _ (k : ℕ) (src : List ℕ) (r : Measure) (b : Bytes src) (answer : measure_answer r ≡ size_of (divided k src)) where
-  row_counted : {tss : List (List Token)} {es : List ℕ} → is_kind k ≡ true → Run (layout_of k) 0 tss es src → r ≡ Measure.Size (length tss)
+module _ (k : ℕ) (src : List ℕ) (r : Result ℕ Refusal) (b : Bytes src) (answer : measure_answer r ≡ size_of (divided k src)) where
+  row_counted : {tss : List (List Token)} {es : List ℕ} → is_kind k ≡ true → Run (layout_of k) 0 tss es src → r ≡ Ok (length tss)
   row_counted {tss} {es} some run =
-      size_answers (divided k src) r answer (Measure.Size (length tss)) (ap size_of (reading_finds_the_run k src some run) ∙ ap found (sym (run_length run)))
+      size_answers (divided k src) r answer (Ok (length tss)) (ap size_of (reading_finds_the_run k src some run) ∙ ap found (sym (run_length run)))
 
-  counted_row : {n : ℕ} → r ≡ Measure.Size n → (is_kind k ≡ true) × (tss : List (List Token)) × (es : List ℕ) × Run (layout_of k) 0 tss es src × (n ≡ length tss)
+  counted_row : {n : ℕ} → r ≡ Ok n → (is_kind k ≡ true) × (tss : List (List Token)) × (es : List ℕ) × Run (layout_of k) 0 tss es src × (n ≡ length tss)
   counted_row e =
       let (es, there, size) = size_of_bytes (divided k src) (size_told (divided k src) r answer e) in
       let (some, tss, run) = found_ends_are_a_runs k src b there in
       (some, tss, es, run, sym size ∙ sym (run_length run))
 
-  why_not : {f : Refusal} → r ≡ Measure.No f → RefusesRow k src f
+  why_not : {f : Refusal} → r ≡ Err f → RefusesRow k src f
   why_not e = refused_row_says_why k src b (size_of_refused (divided k src) (size_told (divided k src) r answer e))
 
-  none_refused : ((tss : List (List Token)) (es : List ℕ) → Run (layout_of k) 0 tss es src → ⊥) → (f : Refusal) × (r ≡ Measure.No f)
+  none_refused : ((tss : List (List Token)) (es : List ℕ) → Run (layout_of k) 0 tss es src → ⊥) → (f : Refusal) × (r ≡ Err f)
   none_refused never = by r refl
     where
-      by : (s : Measure) → r ≡ s → (f : Refusal) × (r ≡ Measure.No f)
-      by (Measure.Size n) e = let (some, tss, es, run, size) = counted_row e in absurd (never tss es run)
-      by (Measure.No f) e = (f, e)
+      by : (s : Result ℕ Refusal) → r ≡ s → (f : Refusal) × (r ≡ Err f)
+      by (Ok n) e = let (some, tss, es, run, size) = counted_row e in absurd (never tss es run)
+      by (Err f) e = (f, e)
 
   pub counts_row : CountsRow k src r
   counts_row =
@@ -65,7 +65,7 @@ module _ (k : ℕ) (src : List ℕ) (r : Measure) (b : Bytes src) (answer : meas
         refused_means_none = λ {tss} {es} some e run. found_refused (ap measure_answer (sym e ∙ row_counted some run));
         none_means_refused = none_refused;
         refusal_is_first = why_not;
-        first_is_refusal = λ {f} why. size_answers (divided k src) r answer (Measure.No f) (ap size_of (why_is_row_refusal k src why));
+        first_is_refusal = λ {f} why. size_answers (divided k src) r answer (Err f) (ap size_of (why_is_row_refusal k src why));
         refusal_says_what_it_had = λ e. row_had k src (why_not e);
       }
 
@@ -81,34 +81,34 @@ module _ (k : ℕ) (src old : List ℕ) where
   cells_for_none size = sym (written_is_roomed (divided k src) old ∙ ap (roomed (length old)) size)
 
 -- and whoever divides
-module _ (k : ℕ) (src old last : List ℕ) (r : Measure) (b : Bytes src) (answer : measure_answer r ≡ written 0 (divided k src) old) (cells : last ≡ filled 0 (divided k src) old) where
-  told : {s : Measure} → r ≡ s → written 0 (divided k src) old ≡ measure_answer s
+module _ (k : ℕ) (src old last : List ℕ) (r : Result ℕ Refusal) (b : Bytes src) (answer : measure_answer r ≡ written 0 (divided k src) old) (cells : last ≡ filled 0 (divided k src) old) where
+  told : {s : Result ℕ Refusal} → r ≡ s → written 0 (divided k src) old ≡ measure_answer s
   told e = sym answer ∙ ap measure_answer e
 
-  answers : (s : Measure) → written 0 (divided k src) old ≡ measure_answer s → r ≡ s
+  answers : (s : Result ℕ Refusal) → written 0 (divided k src) old ≡ measure_answer s → r ≡ s
   answers s e = measure_answer_once r s (answer ∙ e)
 
   row_divided : {tss : List (List Token)} {es : List ℕ} → is_kind k ≡ true → Run (layout_of k) 0 tss es src → length es ≤ length old
-      → (r ≡ Measure.Size (length es)) × (last ≡ es ++ drop (length es) old)
+      → (r ≡ Ok (length es)) × (last ≡ es ++ drop (length es) old)
   row_divided {es = es} some run room =
       let (size, held) = room_is_used old (divided k src) (reading_finds_the_run k src some run) room in
-      (answers (Measure.Size (length es)) size, cells ∙ held)
+      (answers (Ok (length es)) size, cells ∙ held)
 
-  divided_row : {n : ℕ} → r ≡ Measure.Size n
+  divided_row : {n : ℕ} → r ≡ Ok n
       → (is_kind k ≡ true) × (tss : List (List Token)) × (es : List ℕ) × Run (layout_of k) 0 tss es src × (n ≡ length es) × (n ≤ length old) × (last ≡ es ++ drop n old)
   divided_row e =
       let (es, there, size, room, held) = size_is_of_bytes old (divided k src) (told e) in
       let (some, tss, run) = found_ends_are_a_runs k src b there in
       (some, tss, es, run, sym size, room, cells ∙ held)
 
-  none_divided : ((tss : List (List Token)) (es : List ℕ) → Run (layout_of k) 0 tss es src → ⊥) → (f : Refusal) × (r ≡ Measure.No f)
+  none_divided : ((tss : List (List Token)) (es : List ℕ) → Run (layout_of k) 0 tss es src → ⊥) → (f : Refusal) × (r ≡ Err f)
   none_divided never = by r refl
     where
-      by : (s : Measure) → r ≡ s → (f : Refusal) × (r ≡ Measure.No f)
-      by (Measure.Size n) e = let (some, tss, es, run, size, room, held) = divided_row e in absurd (never tss es run)
-      by (Measure.No f) e = (f, e)
+      by : (s : Result ℕ Refusal) → r ≡ s → (f : Refusal) × (r ≡ Err f)
+      by (Ok n) e = let (some, tss, es, run, size, room, held) = divided_row e in absurd (never tss es run)
+      by (Err f) e = (f, e)
 
-  why_not_divided : {f : Refusal} → r ≡ Measure.No f
+  why_not_divided : {f : Refusal} → r ≡ Err f
       → RefusesRow k src f
       ⊎ ((tss : List (List Token)) × (es : List ℕ) × Run (layout_of k) 0 tss es src × (length old < length es) × (f ≡ no_room 0 (length es)))
   why_not_divided {f} e = by (refusal_or_no_room old (divided k src) (told e))
@@ -130,11 +130,11 @@ module _ (k : ℕ) (src old last : List ℕ) (r : Measure) (b : Bytes src) (answ
         none_means_refused = none_divided;
         refused_changes_nothing = λ e. cells ∙ refusal_changes_nothing old (divided k src) (told e);
         refusal_is_first = why_not_divided;
-        first_is_refusal = λ {f} why. answers (Measure.No f) (ap (λ a. written 0 a old) (why_is_row_refusal k src why));
-        run_needs_cells = λ {tss} {es} some run short. answers (Measure.No (no_room 0 (length es))) (no_room_is_refused old (divided k src) (reading_finds_the_run k src some run) short).0;
+        first_is_refusal = λ {f} why. answers (Err f) (ap (λ a. written 0 a old) (why_is_row_refusal k src why));
+        run_needs_cells = λ {tss} {es} some run short. answers (Err (no_room 0 (length es))) (no_room_is_refused old (divided k src) (reading_finds_the_run k src some run) short).0;
         refusal_says_what_it_had = λ {f} e. lent_tells old (Had src) (divided k src) (λ g fails. row_had k src (refused_row_says_why k src b fails)) (λ n. other_had (other 7 refl refl)) f (told e);
       }
 
 -- a refusal leaves the cells as they were
-pub divides_none : (k : ℕ) (src old : List ℕ) {f : Refusal} → Bytes src → refused f ≡ written 0 (divided k src) old → DividesRow k src old (Measure.No f) old
-divides_none k src old {f} b answer = divides_row k src old old (Measure.No f) b answer (sym (refusal_changes_nothing old (divided k src) (sym answer)))
+pub divides_none : (k : ℕ) (src old : List ℕ) {f : Refusal} → Bytes src → refused f ≡ written 0 (divided k src) old → DividesRow k src old (Err f) old
+divides_none k src old {f} b answer = divides_row k src old old (Err f) b answer (sym (refusal_changes_nothing old (divided k src) (sym answer)))

@@ -6,10 +6,10 @@ use mathlib.Core.Logic.{◌⊎◌}
 use mathlib.Core.Bool.{true}
 use mathlib.Core.List.{List, ◌∷◌, ◌++◌}
 use lib.ListN.{length, drop}
+use Rattle.std.specs.Prelude.{Err, Ok, Result}
 use Rattle.faults.specs.declared.Fault.TheVariants.{Short}
 use Rattle.faults.specs.declared.Refusal.{Refusal}
 use Rattle.faults.specs.Faults.{trailing}
-use Rattle.wire.specs.declared.measure.Measure.{Measure}
 use Rattle.wire.specs.Answers.{measure_answer}
 use Rattle.wire.specs.Bytes.{Bytes}
 use Rattle.wire.specs.Records.{Ans, refused, Parsed, parsed, left}
@@ -70,14 +70,14 @@ module _ {e : Edition} (x : Extends e) (k : ℕ) (src : List ℕ) (at : ℕ) {a 
 
 -- ---- where it ends, by the kind's number
 
-module _ {e : Edition} (x : Extends e) (k : ℕ) (src : List ℕ) (at : ℕ) {r : Measure} (told : measure_answer r ≡ end_of (read_kind k src at))
+module _ {e : Edition} (x : Extends e) (k : ℕ) (src : List ℕ) (at : ℕ) {r : Result ℕ Refusal} (told : measure_answer r ≡ end_of (read_kind k src at))
     {ts : List Token} {bs : List ℕ} (some : is_kind k ≡ true) (d : Spells (layout_in e k) ts bs) (stands : Stands src at bs) where
   -- of a record of the edition that is all ours `record_end` answers the end
-  pub ours_has_end : AllOurs x k d → r ≡ Measure.Size (at + length bs)
+  pub ours_has_end : AllOurs x k d → r ≡ Ok (at + length bs)
   ours_has_end all = readers.ours_has_end k src at told some (extension_is_later x k) d stands all
 
   -- and any other it refuses
-  pub not_ours_has_no_end : (AllOurs x k d → ⊥) → (f : Refusal) × Foreign (layout_of k) src at (at + length bs) f × (r ≡ Measure.No f)
+  pub not_ours_has_no_end : (AllOurs x k d → ⊥) → (f : Refusal) × Foreign (layout_of k) src at (at + length bs) f × (r ≡ Err f)
   not_ours_has_no_end foreign = readers.not_ours_has_no_end k src at told some (extension_is_later x k) d stands foreign
 
 -- ---- cut: xs stands at the end of the input, and the record goes on
@@ -98,7 +98,7 @@ module _ {e : Edition} (x : Extends e) (k : ℕ) (before xs : List ℕ) (y : ℕ
       (f, told ∙ refused_is_refused_whole (layout_of k) (before ++ xs) (length before) p, why)
 
   -- and `record_end` answers no end
-  pub cut_has_no_end : {r : Measure} → is_kind k ≡ true → measure_answer r ≡ end_of (read_kind k (before ++ xs) (length before)) → (f : Refusal) × (r ≡ Measure.No f) × ((f.fault ≡ Short) ⊎ Newer f)
+  pub cut_has_no_end : {r : Result ℕ Refusal} → is_kind k ≡ true → measure_answer r ≡ end_of (read_kind k (before ++ xs) (length before)) → (f : Refusal) × (r ≡ Err f) × ((f.fault ≡ Short) ⊎ Newer f)
   cut_has_no_end {r} some told =
       let (f, p, why) = promises.later_edition_cut k before xs y ys b (extension_is_later x k) d in
-      (f, measure_answer_once r (Measure.No f) (told ∙ sym (ap end_of (of_kind k (before ++ xs) (length before) refl some)) ∙ ap end_of p), why)
+      (f, measure_answer_once r (Err f) (told ∙ sym (ap end_of (of_kind k (before ++ xs) (length before) refl some)) ∙ ap end_of p), why)

@@ -4,8 +4,8 @@ use mathlib.Core.Path.{◌≡◌, refl, sym, ap, ◌∙◌}
 use mathlib.Core.Bool.{true}
 use mathlib.Core.List.{List}
 use lib.ListN.{length}
+use Rattle.std.specs.Prelude.{Err, Ok, Result}
 use Rattle.faults.specs.declared.Refusal.{Refusal}
-use Rattle.wire.specs.declared.measure.Measure.{Measure}
 use Rattle.wire.specs.Answers.{measure_answer}
 use Rattle.wire.specs.Bytes.{Bytes}
 use Rattle.wire.specs.Layout.{Layout}
@@ -29,40 +29,40 @@ no_end (refused g) e = ap refused (refused_same e)
 
 -- ---- a record as a prefix
 
-module _ (k : ℕ) (src : List ℕ) (at : ℕ) (r : Measure) (answer : measure_answer r ≡ end_of (read_kind k src at)) (b : Bytes src) where
-  told : {s : Measure} → r ≡ s → end_of (read_kind k src at) ≡ measure_answer s
+module _ (k : ℕ) (src : List ℕ) (at : ℕ) (r : Result ℕ Refusal) (answer : measure_answer r ≡ end_of (read_kind k src at)) (b : Bytes src) where
+  told : {s : Result ℕ Refusal} → r ≡ s → end_of (read_kind k src at) ≡ measure_answer s
   told e = sym answer ∙ ap measure_answer e
 
-  answers : (s : Measure) → end_of (read_kind k src at) ≡ measure_answer s → r ≡ s
+  answers : (s : Result ℕ Refusal) → end_of (read_kind k src at) ≡ measure_answer s → r ≡ s
   answers s e = measure_answer_once r s (answer ∙ e)
 
-  legal_ends : {e : ℕ} → Starts (layout_of k) src at e → r ≡ Measure.Size e
-  legal_ends {e} d = answers (Measure.Size e) (ap end_of (legal_is_read_by_number k d))
+  legal_ends : {e : ℕ} → Starts (layout_of k) src at e → r ≡ Ok e
+  legal_ends {e} d = answers (Ok e) (ap end_of (legal_is_read_by_number k d))
 
-  end_legal : {e : ℕ} → r ≡ Measure.Size e → Starts (layout_of k) src at e
+  end_legal : {e : ℕ} → r ≡ Ok e → Starts (layout_of k) src at e
   end_legal e =
       let (p, there, stops) = next_found (read_kind k src at) _ (told e) in
       rw (← found_same stops) (read_by_number_is_legal k src at b there)
 
-  refused_none : {e : ℕ} {f : Refusal} → r ≡ Measure.No f → Starts (layout_of k) src at e → ⊥
+  refused_none : {e : ℕ} {f : Refusal} → r ≡ Err f → Starts (layout_of k) src at e → ⊥
   refused_none fails d = found_refused (ap measure_answer (sym fails ∙ legal_ends d))
 
-  none_refused : ((e : ℕ) → Starts (layout_of k) src at e → ⊥) → (f : Refusal) × (r ≡ Measure.No f)
+  none_refused : ((e : ℕ) → Starts (layout_of k) src at e → ⊥) → (f : Refusal) × (r ≡ Err f)
   none_refused none = by (read_kind k src at) refl
     where
-      by : (a : Ans Parsed) → read_kind k src at ≡ a → (f : Refusal) × (r ≡ Measure.No f)
+      by : (a : Ans Parsed) → read_kind k src at ≡ a → (f : Refusal) × (r ≡ Err f)
       by (found p) e = absurd (none p.stops (read_by_number_is_legal k src at b e))
-      by (refused f) e = (f, answers (Measure.No f) (ap end_of e))
+      by (refused f) e = (f, answers (Err f) (ap end_of e))
 
   -- what a reader of the layout answers is answered, if the number is a kind's
-  by_layout : {s : Measure} → is_kind k ≡ true → end_of (read (layout_of k) src at) ≡ measure_answer s → r ≡ s
+  by_layout : {s : Result ℕ Refusal} → is_kind k ≡ true → end_of (read (layout_of k) src at) ≡ measure_answer s → r ≡ s
   by_layout {s} some e = answers s (ap end_of (sym (of_kind k src at refl some)) ∙ e)
 
-  ours_ends : {l' : Layout} {ts : List Token} {bs : List ℕ} (x : Later (layout_of k) l') (d : Spells l' ts bs) → Stands src at bs → Ours x d → r ≡ Measure.Size (at + length bs)
+  ours_ends : {l' : Layout} {ts : List Token} {bs : List ℕ} (x : Later (layout_of k) l') (d : Spells l' ts bs) → Stands src at bs → Ours x d → r ≡ Ok (at + length bs)
   ours_ends x d stands all = by_layout (spelled_is_kind k (ours_kept x d all).0) (ap end_of (ours_is_read x d stands all))
 
   not_ours_refused : {l' : Layout} {ts : List Token} {bs : List ℕ} → is_kind k ≡ true → (x : Later (layout_of k) l') (d : Spells l' ts bs) → Stands src at bs → (Ours x d → ⊥)
-      → (f : Refusal) × Foreign (layout_of k) src at (at + length bs) f × (r ≡ Measure.No f)
+      → (f : Refusal) × Foreign (layout_of k) src at (at + length bs) f × (r ≡ Err f)
   not_ours_refused some x d stands foreign = let (f, g, p) = not_ours_is_refused x d stands foreign in (f, g, by_layout some (ap end_of p))
 
   pub ends : Ends k src at r
@@ -74,7 +74,7 @@ module _ (k : ℕ) (src : List ℕ) (at : ℕ) (r : Measure) (answer : measure_a
         refused_means_none = refused_none;
         none_means_refused = none_refused;
         refusal_is_first = λ e. refusal_by_number_is_first k src at b (no_end (read_kind k src at) (told e));
-        first_is_refusal = λ {f} d. answers (Measure.No f) (ap end_of (first_is_refusal_by_number k d));
+        first_is_refusal = λ {f} d. answers (Err f) (ap end_of (first_is_refusal_by_number k d));
         refusal_says_what_it_had = λ {f} e. refused_by_number_says_what_it_had k src at f (no_end (read_kind k src at) (told e));
         cut_is_short = λ y ys inside d. let (place, needed, p) = cut_there (layout_of k) src at b y ys inside d in (place, needed, by_layout (spelled_is_kind k d) (ap end_of p));
         ours_has_end = ours_ends;

@@ -8,11 +8,10 @@ use mathlib.Core.Bool.{true, false}
 use mathlib.Core.List.{List, ◌∷◌, ◌++◌}
 use lib.ListN.{length, drop}
 use lib.Seq.{drop_at, drop-drop}
+use Rattle.std.specs.Prelude.{Option, Some, Err, Ok, Result}
 use Rattle.faults.specs.declared.Fault.TheVariants.{Short}
 use Rattle.faults.specs.declared.Refusal.{Refusal}
 use Rattle.faults.specs.Faults.{bad_kind, trailing}
-use Rattle.wire.specs.declared.choice.Choice.{Choice}
-use Rattle.wire.specs.declared.measure.Measure.{Measure}
 use Rattle.wire.specs.Answers.{measure_answer}
 use Rattle.wire.specs.Bytes.{Bytes}
 use Rattle.wire.specs.Layout.{Layout, no_arm}
@@ -168,35 +167,35 @@ module _ (k : ℕ) (src : List ℕ) (at : ℕ) {a : Ans Parsed} (told : a ≡ re
 
 -- ---- where a record ends, by its kind's number
 
-module _ (k : ℕ) (src : List ℕ) (at : ℕ) {r : Measure} (told : measure_answer r ≡ end_of (read_kind k src at)) where
+module _ (k : ℕ) (src : List ℕ) (at : ℕ) {r : Result ℕ Refusal} (told : measure_answer r ≡ end_of (read_kind k src at)) where
   -- the end that `record_end` answers is where a legal record of that kind ends
-  pub end_is_legal : {e : ℕ} → Bytes src → is_kind k ≡ true → r ≡ Measure.Size e → Starts (layout_of k) src at e
+  pub end_is_legal : {e : ℕ} → Bytes src → is_kind k ≡ true → r ≡ Ok e → Starts (layout_of k) src at e
   end_is_legal b some given = promises.end_is_legal k src at b some (sym told ∙ ap measure_answer given)
 
   -- where one ends, that end is answered
-  pub legal_has_end : {e : ℕ} → is_kind k ≡ true → Starts (layout_of k) src at e → r ≡ Measure.Size e
-  legal_has_end {e} some d = measure_answer_once r (Measure.Size e) (told ∙ promises.legal_has_end k some d)
+  pub legal_has_end : {e : ℕ} → is_kind k ≡ true → Starts (layout_of k) src at e → r ≡ Ok e
+  legal_has_end {e} some d = measure_answer_once r (Ok e) (told ∙ promises.legal_has_end k some d)
 
   -- where a legal record of a later edition ends, that end is answered, if it is all ours
-  pub ours_has_end : {l' : Layout} {ts : List Token} {bs : List ℕ} → is_kind k ≡ true → (x : Later (layout_of k) l') (d : Spells l' ts bs) → Stands src at bs → Ours x d → r ≡ Measure.Size (at + length bs)
-  ours_has_end {bs = bs} some x d stands all = measure_answer_once r (Measure.Size (at + length bs)) (told ∙ promises.ours_has_end k some x d stands all)
+  pub ours_has_end : {l' : Layout} {ts : List Token} {bs : List ℕ} → is_kind k ≡ true → (x : Later (layout_of k) l') (d : Spells l' ts bs) → Stands src at bs → Ours x d → r ≡ Ok (at + length bs)
+  ours_has_end {bs = bs} some x d stands all = measure_answer_once r (Ok (at + length bs)) (told ∙ promises.ours_has_end k some x d stands all)
 
   -- any other is refused at the first code or arm that is not ours
   pub not_ours_has_no_end : {l' : Layout} {ts : List Token} {bs : List ℕ} → is_kind k ≡ true → (x : Later (layout_of k) l') (d : Spells l' ts bs) → Stands src at bs → (Ours x d → ⊥)
-      → (f : Refusal) × Foreign (layout_of k) src at (at + length bs) f × (r ≡ Measure.No f)
+      → (f : Refusal) × Foreign (layout_of k) src at (at + length bs) f × (r ≡ Err f)
   not_ours_has_no_end some x d stands foreign =
       let (f, g, p) = promises.not_ours_has_no_end k some x d stands foreign in
-      (f, g, measure_answer_once r (Measure.No f) (told ∙ p))
+      (f, g, measure_answer_once r (Err f) (told ∙ p))
 
   -- and a number that is no kind is refused as such
-  pub no_kind_has_no_end : is_kind k ≡ false → r ≡ Measure.No (bad_kind k)
-  no_kind_has_no_end none = measure_answer_once r (Measure.No (bad_kind k)) (told ∙ sym (no_kind k src at none))
+  pub no_kind_has_no_end : is_kind k ≡ false → r ≡ Err (bad_kind k)
+  no_kind_has_no_end none = measure_answer_once r (Err (bad_kind k)) (told ∙ sym (no_kind k src at none))
 
 -- ---- arms
 
 -- `matches_tag` says yes exactly when the arm that is held is the one that the selector chooses
-pub matches_the_chosen : (c : Choice) (t : ℕ) → is_arm c t ≡ true → c ≡ Choice.The t
+pub matches_the_chosen : (c : Option ℕ) (t : ℕ) → is_arm c t ≡ true → c ≡ Some t
 matches_the_chosen c t e = chosen_is c t e
 
-pub chosen_matches : (c : Choice) (t : ℕ) → c ≡ Choice.The t → is_arm c t ≡ true
+pub chosen_matches : (c : Option ℕ) (t : ℕ) → c ≡ Some t → is_arm c t ≡ true
 chosen_matches c t e = rw (e, eq-eqb t t refl)

@@ -7,9 +7,9 @@ use mathlib.Core.Bool.{true, false}
 use mathlib.Core.List.{List, [], ◌∷◌, ◌++◌, append-nil, append_assoc}
 use lib.ListN.{length, drop, get_or, set, length-append, length-set}
 use lib.Seq.{drop-cons, set_at}
+use Rattle.std.specs.Prelude.{Err, Ok, Result}
 use Rattle.faults.specs.declared.Refusal.{Refusal}
 use Rattle.faults.specs.Faults.{bad_kind}
-use Rattle.wire.specs.declared.measure.Measure.{Measure}
 use Rattle.wire.specs.Answers.{measure_answer}
 use Rattle.wire.specs.Records.{Ans, found, refused, left}
 use Rattle.wire.specs.Reading.{read, end_of}
@@ -38,7 +38,7 @@ pub record SoFar (k : ℕ) (src : List ℕ) (at : ℕ) (es : List ℕ) : Type 0 
   pub same : divided k src ≡ ahead es (ends_from (layout_of k) most src at)
 
 -- an end stands further on, and in the input
-pub read_further : {k : ℕ} {src : List ℕ} {at e : ℕ} {r : Measure} → Ends k src at r → r ≡ Measure.Size e → (at < e) × (e ≤ length src)
+pub read_further : {k : ℕ} {src : List ℕ} {at e : ℕ} {r : Result ℕ Refusal} → Ends k src at r → r ≡ Ok e → (at < e) × (e ≤ length src)
 read_further {k} told given = starts_lies_in k (told.end_is_legal given)
 
 -- at the start
@@ -49,7 +49,7 @@ so_far_none k src some =
 
 module _ {k : ℕ} {src : List ℕ} {at : ℕ} {es : List ℕ} (x : SoFar k src at es) where
   -- a record was read: its end is one more
-  pub so_far_more : {r : Measure} {e : ℕ} → at < length src → Ends k src at r → r ≡ Measure.Size e → SoFar k src e (es ++ (e ∷ []))
+  pub so_far_more : {r : Result ℕ Refusal} {e : ℕ} → at < length src → Ends k src at r → r ≡ Ok e → SoFar k src e (es ++ (e ∷ []))
   so_far_more {r} {e} more told given = by x.most x.enough x.same
     where
       by : (m : ℕ) → left src at ≤ m → divided k src ≡ ahead es (ends_from (layout_of k) m src at) → SoFar k src e (es ++ (e ∷ []))
@@ -70,7 +70,7 @@ module _ {k : ℕ} {src : List ℕ} {at : ℕ} {es : List ℕ} (x : SoFar k src 
   so_far_all over = x.same ∙ ap (λ a. ahead es a) (turn_none (layout_of k) src x.most at over) ∙ ap found (append-nil es)
 
   -- the next record is not there
-  pub so_far_refused : {r : Measure} {f : Refusal} → at < length src → Ends k src at r → r ≡ Measure.No f → divided k src ≡ refused f
+  pub so_far_refused : {r : Result ℕ Refusal} {f : Refusal} → at < length src → Ends k src at r → r ≡ Err f → divided k src ≡ refused f
   so_far_refused {r} {f} more told given = by x.most x.enough x.same
     where
       by : (m : ℕ) → left src at ≤ m → divided k src ≡ ahead es (ends_from (layout_of k) m src at) → divided k src ≡ refused f
@@ -104,14 +104,14 @@ unfolding divided
 no_kind_counted k src e same lacks = rw (lacks, e, same)
 
 module _ {k : ℕ} {src : List ℕ} {at n : ℕ} (x : Counted k src at n) where
-  pub counted_more : {r : Measure} {e : ℕ} → at < length src → Ends k src at r → r ≡ Measure.Size e → Counted k src e (n + 1)
+  pub counted_more : {r : Result ℕ Refusal} {e : ℕ} → at < length src → Ends k src at r → r ≡ Ok e → Counted k src e (n + 1)
   counted_more {e = e} more told given =
       record { ends = x.ends ++ (e ∷ []); many = omega (arith, length-append x.ends (e ∷ []), x.many); so_far = so_far_more x.so_far more told given }
 
   pub counted_all : length src ≤ at → found n ≡ size_of (divided k src)
   counted_all over = ap found x.many ∙ sym (ap size_of (so_far_all x.so_far over))
 
-  pub counted_refused : {r : Measure} {f : Refusal} → at < length src → Ends k src at r → r ≡ Measure.No f → refused f ≡ size_of (divided k src)
+  pub counted_refused : {r : Result ℕ Refusal} {f : Refusal} → at < length src → Ends k src at r → r ≡ Err f → refused f ≡ size_of (divided k src)
   counted_refused more told given = sym (ap size_of (so_far_refused x.so_far more told given))
 
 -- ---- the second puts their ends into cells
@@ -133,7 +133,7 @@ pub celled_none : (k : ℕ) (src old : List ℕ) {all : ℕ} → size_of (divide
 celled_none k src old size = record { ends = []; many = refl; so_far = so_far_none k src (counted_is_kind k src size); same = refl; held = refl }
 
 module _ {k : ℕ} {src old out : List ℕ} {at n all : ℕ} (x : Celled k src old out at n) (size : size_of (divided k src) ≡ found all) (room : all ≤ length old) where
-  module _ {r : Measure} {e : ℕ} (more : at < length src) (told : Ends k src at r) (given : r ≡ Measure.Size e) where
+  module _ {r : Result ℕ Refusal} {e : ℕ} (more : at < length src) (told : Ends k src at r) (given : r ≡ Ok e) where
     -- there is a cell for one more
     pub cell_there : n < length old
     cell_there = omega (arith, so_far_few (so_far_more x.so_far more told given) size, length-append x.ends (e ∷ []), x.many)
@@ -154,7 +154,7 @@ module _ {k : ℕ} {src old out : List ℕ} {at n all : ℕ} (x : Celled k src o
         }
 
   -- all that were counted are there
-  pub never_refused : {r : Measure} {f : Refusal} → at < length src → Ends k src at r → r ≡ Measure.No f → ⊥
+  pub never_refused : {r : Result ℕ Refusal} {f : Refusal} → at < length src → Ends k src at r → r ≡ Err f → ⊥
   never_refused more told given = found_refused (sym (ap size_of (so_far_refused x.so_far more told given)) ∙ size)
 
   pub celled_all : length src ≤ at → out ≡ filled 0 (divided k src) old

@@ -7,9 +7,9 @@ use mathlib.Core.Logic.{◌⊎◌, inl, inr}
 use mathlib.Core.Bool.{Bool, true, false}
 use mathlib.Core.List.{List}
 use lib.ListN.{length, drop, length-drop}
+use Rattle.std.specs.Prelude.{Err, Ok, Result}
 use Rattle.faults.specs.declared.Refusal.{Refusal}
 use Rattle.faults.specs.Faults.{bad_kind, trailing}
-use Rattle.wire.specs.declared.measure.Measure.{Measure}
 use Rattle.wire.specs.Answers.{measure_answer}
 use Rattle.wire.specs.Bytes.{Bytes}
 use Rattle.wire.specs.Layout.{Layout}
@@ -46,29 +46,29 @@ no_whole_kind k src at h = rw h
 
 -- ---- what is owed, from the equation
 
-module _ (k : ℕ) (src : List ℕ) (at : ℕ) (r : Measure) (answer : measure_answer r ≡ end_of (read_kind_whole k src at)) (b : Bytes src) where
-  told : {s : Measure} → r ≡ s → end_of (read_kind_whole k src at) ≡ measure_answer s
+module _ (k : ℕ) (src : List ℕ) (at : ℕ) (r : Result ℕ Refusal) (answer : measure_answer r ≡ end_of (read_kind_whole k src at)) (b : Bytes src) where
+  told : {s : Result ℕ Refusal} → r ≡ s → end_of (read_kind_whole k src at) ≡ measure_answer s
   told e = sym answer ∙ ap measure_answer e
 
-  answers : (s : Measure) → end_of (read_kind_whole k src at) ≡ measure_answer s → r ≡ s
+  answers : (s : Result ℕ Refusal) → end_of (read_kind_whole k src at) ≡ measure_answer s → r ≡ s
   answers s e = measure_answer_once r s (answer ∙ e)
 
   -- what the reader of the layout answers is answered
-  by_layout : {s : Measure} → is_kind k ≡ true → end_of (read_whole (layout_of k) src at) ≡ measure_answer s → r ≡ s
+  by_layout : {s : Result ℕ Refusal} → is_kind k ≡ true → end_of (read_whole (layout_of k) src at) ≡ measure_answer s → r ≡ s
   by_layout {s} some e = answers s (ap end_of (sym (of_whole_kind k src at refl some)) ∙ e)
 
-  whole_ends : {e : ℕ} → IsWhole (layout_of k) src at e → r ≡ Measure.Size e
+  whole_ends : {e : ℕ} → IsWhole (layout_of k) src at e → r ≡ Ok e
   whole_ends w =
       by_layout (spelled_is_kind k w.spells) (ap end_of (whole.legal_is_accepted_whole (layout_of k) src at w.spells refl) ∙ ap found (sym w.ends))
 
-  end_whole : {e : ℕ} → r ≡ Measure.Size e → IsWhole (layout_of k) src at e
+  end_whole : {e : ℕ} → r ≡ Ok e → IsWhole (layout_of k) src at e
   unfolding read_kind_whole
   end_whole {e} given =
       let (p, there, stops) = next_found (read_kind_whole k src at) _ (told given) in
       let (ts, d, same, shows, end) = whole.whole_accepts_only_all (layout_of k) src at b (when_found (is_kind k) _ _ there).1 in
       record { tokens = ts; spells = d; ends = omega (arith, found_same stops, end, length-drop at src) }
 
-  why_refused : {f : Refusal} → r ≡ Measure.No f → RefusesKind k src at f ⊎ ((e : ℕ) × Starts (layout_of k) src at e × (e < length src) × (f ≡ trailing e (length src - e)))
+  why_refused : {f : Refusal} → r ≡ Err f → RefusesKind k src at f ⊎ ((e : ℕ) × Starts (layout_of k) src at e × (e < length src) × (f ≡ trailing e (length src - e)))
   why_refused {f} given = by (is_kind k) refl
     where
       fails : read_kind_whole k src at ≡ refused f
@@ -82,23 +82,23 @@ module _ (k : ℕ) (src : List ℕ) (at : ℕ) (r : Measure) (answer : measure_a
       by true some = why some (whole.whole_refusal_says_why (layout_of k) src at f b (of_whole_kind k src at refl some ∙ fails))
       by false none = inl (no_kind none (refused_same (sym fails ∙ sym (no_whole_kind k src at none))))
 
-  first_refused : {f : Refusal} → RefusesKind k src at f → r ≡ Measure.No f
-  first_refused {f} (no_kind none same) = answers (Measure.No f) (ap end_of (sym (no_whole_kind k src at none)) ∙ ap refused (sym same))
+  first_refused : {f : Refusal} → RefusesKind k src at f → r ≡ Err f
+  first_refused {f} (no_kind none same) = answers (Err f) (ap end_of (sym (no_whole_kind k src at none)) ∙ ap refused (sym same))
   first_refused {f} (in_record some d) = by_layout some (ap end_of (whole.why_is_whole_refusal (layout_of k) src at (first_fault d)))
 
-  says_what_it_had : {f : Refusal} → r ≡ Measure.No f → Had src f
+  says_what_it_had : {f : Refusal} → r ≡ Err f → Had src f
   unfolding read_kind_whole
   says_what_it_had {f} given =
       kind_tells k src (read_whole (layout_of k) src at) (refused_whole_says_what_it_had (layout_of k) src at) f (no_end (read_kind_whole k src at) (told given))
 
-  tail_trailing : {e : ℕ} → Starts (layout_of k) src at e → e < length src → r ≡ Measure.No (trailing e (length src - e))
+  tail_trailing : {e : ℕ} → Starts (layout_of k) src at e → e < length src → r ≡ Err (trailing e (length src - e))
   tail_trailing {e} d more = by_layout (spelled_is_kind k d.spells) (ap end_of (whole.why_is_whole_refusal (layout_of k) src at (left_over e d more refl)))
 
-  ours_end : {l' : Layout} {ts : List Token} {bs : List ℕ} (x : Later (layout_of k) l') (d : Spells l' ts bs) → drop at src ≡ bs → Ours x d → r ≡ Measure.Size (at + length bs)
+  ours_end : {l' : Layout} {ts : List Token} {bs : List ℕ} (x : Later (layout_of k) l') (d : Spells l' ts bs) → drop at src ≡ bs → Ours x d → r ≡ Ok (at + length bs)
   ours_end x d alone all = by_layout (spelled_is_kind k (ours.ours_kept x d all).0) (ap end_of (ours.ours_is_read_whole src at x d alone all))
 
   not_ours_refused : {l' : Layout} {ts : List Token} {bs : List ℕ} → is_kind k ≡ true → (x : Later (layout_of k) l') (d : Spells l' ts bs) → Stands src at bs → (Ours x d → ⊥)
-      → (f : Refusal) × Foreign (layout_of k) src at (at + length bs) f × (r ≡ Measure.No f)
+      → (f : Refusal) × Foreign (layout_of k) src at (at + length bs) f × (r ≡ Err f)
   not_ours_refused some x d stands foreign = let (f, g, p) = ours.not_ours_is_refused_whole x d stands foreign in (f, g, by_layout some (ap end_of p))
 
   -- what is refused as a prefix is refused whole

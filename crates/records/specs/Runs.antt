@@ -1,9 +1,8 @@
 -- Records of one kind in a row, one behind the other with nothing between them: what such a row is, what repeated reading finds of it, and
 -- what is owed to whoever has it divided. Assumes nothing.
-use Rattle.std.specs.Prelude.{ℕ, zero, suc, ◌+◌, ◌≤◌, ◌<◌, ◌≡◌, ◌⊎◌, true, false, cond, List, [], ◌∷◌, ◌++◌, length, drop, leb}
+use Rattle.std.specs.Prelude.{ℕ, zero, suc, ◌+◌, ◌≤◌, ◌<◌, ◌≡◌, ◌⊎◌, true, false, cond, List, [], ◌∷◌, ◌++◌, length, drop, leb, Err, Ok, Result}
 use Rattle.faults.specs.declared.Refusal.{Refusal}
 use Rattle.faults.specs.Faults.{bad_kind, no_room}
-use Rattle.wire.specs.declared.measure.Measure.{Measure}
 use Rattle.wire.specs.Answers.{measure_answer}
 use Rattle.wire.specs.Layout.{Layout}
 use Rattle.wire.specs.Records.{Ans, found, refused, next}
@@ -55,48 +54,48 @@ divided k src = cond (is_kind k) (ends_from (layout_of k) (length src) src 0) (r
 -- ---- what is owed
 
 -- What is owed to whoever asks how many records of a kind the whole of src is: r was answered
-pub record CountsRow (kind : ℕ) (src : List ℕ) (r : Measure) : Type 0 where
+pub record CountsRow (kind : ℕ) (src : List ℕ) (r : Result ℕ Refusal) : Type 0 where
   -- how many repeated reading finds, or the first refusal: the input determines it
   pub answer : measure_answer r ≡ size_of (divided kind src)
   -- a row of records of the kind is counted
-  pub run_is_counted : {tss : List (List Token)} {es : List ℕ} → is_kind kind ≡ true → Run (layout_of kind) 0 tss es src → r ≡ Measure.Size (length tss)
+  pub run_is_counted : {tss : List (List Token)} {es : List ℕ} → is_kind kind ≡ true → Run (layout_of kind) 0 tss es src → r ≡ Ok (length tss)
   -- what is counted is one
-  pub counted_is_run : {n : ℕ} → r ≡ Measure.Size n
+  pub counted_is_run : {n : ℕ} → r ≡ Ok n
       → (is_kind kind ≡ true) × (tss : List (List Token)) × (es : List ℕ) × Run (layout_of kind) 0 tss es src × (n ≡ length tss)
   -- a refusal means that it is none, and what is none is refused
-  pub refused_means_none : {tss : List (List Token)} {es : List ℕ} {f : Refusal} → is_kind kind ≡ true → r ≡ Measure.No f → Run (layout_of kind) 0 tss es src → ⊥
-  pub none_means_refused : ((tss : List (List Token)) (es : List ℕ) → Run (layout_of kind) 0 tss es src → ⊥) → (f : Refusal) × (r ≡ Measure.No f)
+  pub refused_means_none : {tss : List (List Token)} {es : List ℕ} {f : Refusal} → is_kind kind ≡ true → r ≡ Err f → Run (layout_of kind) 0 tss es src → ⊥
+  pub none_means_refused : ((tss : List (List Token)) (es : List ℕ) → Run (layout_of kind) 0 tss es src → ⊥) → (f : Refusal) × (r ≡ Err f)
   -- the refusal says that there is no such kind, or is that of the first record that is not there; and what says so is answered
-  pub refusal_is_first : {f : Refusal} → r ≡ Measure.No f → RefusesRow kind src f
-  pub first_is_refusal : {f : Refusal} → RefusesRow kind src f → r ≡ Measure.No f
+  pub refusal_is_first : {f : Refusal} → r ≡ Err f → RefusesRow kind src f
+  pub first_is_refusal : {f : Refusal} → RefusesRow kind src f → r ≡ Err f
   -- it says what it had
-  pub refusal_says_what_it_had : {f : Refusal} → r ≡ Measure.No f → Had src f
+  pub refusal_says_what_it_had : {f : Refusal} → r ≡ Err f → Had src f
 
 -- What is owed to whoever has src divided into records of a kind, and lends cells for the places where they end: how many there are, or why
 -- not; and all that the cells hold afterwards. They held old before and hold last now, and r was answered
-pub record DividesRow (kind : ℕ) (src old : List ℕ) (r : Measure) (last : List ℕ) : Type 0 where
+pub record DividesRow (kind : ℕ) (src old : List ℕ) (r : Result ℕ Refusal) (last : List ℕ) : Type 0 where
   -- how many repeated reading finds, the first refusal, or that there are too few cells: the input and the cells determine it
   pub answer : measure_answer r ≡ written 0 (divided kind src) old
   -- the ends and then what was there, or all that was there
   pub cells : last ≡ filled 0 (divided kind src) old
   -- a row of records of the kind is divided where each of them ends, if there are cells for that
   pub run_is_divided : {tss : List (List Token)} {es : List ℕ} → is_kind kind ≡ true → Run (layout_of kind) 0 tss es src → length es ≤ length old
-      → (r ≡ Measure.Size (length es)) × (last ≡ es ++ drop (length es) old)
+      → (r ≡ Ok (length es)) × (last ≡ es ++ drop (length es) old)
   -- what is divided is such a row
-  pub divided_is_run : {n : ℕ} → r ≡ Measure.Size n
+  pub divided_is_run : {n : ℕ} → r ≡ Ok n
       → (is_kind kind ≡ true) × (tss : List (List Token)) × (es : List ℕ) × Run (layout_of kind) 0 tss es src × (n ≡ length es) × (n ≤ length old) × (last ≡ es ++ drop n old)
   -- with cells enough a refusal means that it is none, and what is none is refused
-  pub refused_means_none : {tss : List (List Token)} {es : List ℕ} {f : Refusal} → is_kind kind ≡ true → r ≡ Measure.No f → length es ≤ length old → Run (layout_of kind) 0 tss es src → ⊥
-  pub none_means_refused : ((tss : List (List Token)) (es : List ℕ) → Run (layout_of kind) 0 tss es src → ⊥) → (f : Refusal) × (r ≡ Measure.No f)
+  pub refused_means_none : {tss : List (List Token)} {es : List ℕ} {f : Refusal} → is_kind kind ≡ true → r ≡ Err f → length es ≤ length old → Run (layout_of kind) 0 tss es src → ⊥
+  pub none_means_refused : ((tss : List (List Token)) (es : List ℕ) → Run (layout_of kind) 0 tss es src → ⊥) → (f : Refusal) × (r ≡ Err f)
   -- a refusal changes no cell
-  pub refused_changes_nothing : {f : Refusal} → r ≡ Measure.No f → last ≡ old
+  pub refused_changes_nothing : {f : Refusal} → r ≡ Err f → last ≡ old
   -- it says why src is no such row; or it is one, and there are fewer cells than records, of which it says how many there are
-  pub refusal_is_first : {f : Refusal} → r ≡ Measure.No f
+  pub refusal_is_first : {f : Refusal} → r ≡ Err f
       → RefusesRow kind src f
       ⊎ ((tss : List (List Token)) × (es : List ℕ) × Run (layout_of kind) 0 tss es src × (length old < length es) × (f ≡ no_room 0 (length es)))
   -- and what says so is answered
-  pub first_is_refusal : {f : Refusal} → RefusesRow kind src f → r ≡ Measure.No f
+  pub first_is_refusal : {f : Refusal} → RefusesRow kind src f → r ≡ Err f
   pub run_needs_cells : {tss : List (List Token)} {es : List ℕ} → is_kind kind ≡ true → Run (layout_of kind) 0 tss es src → length old < length es
-      → r ≡ Measure.No (no_room 0 (length es))
+      → r ≡ Err (no_room 0 (length es))
   -- it says what it had
-  pub refusal_says_what_it_had : {f : Refusal} → r ≡ Measure.No f → Had src f
+  pub refusal_says_what_it_had : {f : Refusal} → r ≡ Err f → Had src f

@@ -2,247 +2,59 @@
 ghost use Rattle.std.specs.Prelude.{◌≡◌};
 ghost use Rattle.wire.specs.Answers.{measure_answer};
 ghost use Rattle.wire.specs.Reading.{read, end_of};
-ghost use Rattle.format.specs.Kinds.{tpmt_ha, tpmt_sym_def, tpmt_kdf_scheme, tpmt_keyedhash_scheme, tpmt_sig_scheme, tpmt_asym_scheme, tpmt_public_parms, tpmt_signature, tpmt_public, tpmt_sensitive, tpms_attest, tpml_pcr_selection, tpms_capability_data, tpmt_nv_public2, tpmt_tk_creation, tpmt_tk_verified, tpmt_tk_hashcheck, tpmt_tk_auth, read_kind};
+ghost use Rattle.format.specs.Kinds.{layout_of};
+ghost use Rattle.format.specs.Numbers.{number_of};
 ghost use Rattle.records.specs.Ends.{Ends};
 
-use crate::read::{
-    tpml_pcr_selection_read, tpms_attest_read, tpms_capability_data_read, tpmt_ecc_scheme_read,
-    tpmt_ha_read, tpmt_kdf_scheme_read, tpmt_keyedhash_scheme_read, tpmt_nv_public2_read,
-    tpmt_public_parms_read, tpmt_public_read, tpmt_rsa_decrypt_read, tpmt_rsa_scheme_read,
-    tpmt_sensitive_read, tpmt_sig_scheme_read, tpmt_signature_read, tpmt_sym_def_read,
-    tpmt_tk_auth_read, tpmt_tk_creation_read, tpmt_tk_hashcheck_read, tpmt_tk_verified_read,
-};
-use areas::tpmt::{
-    TpmtNvPublic2Read, TpmtTkAuthRead, TpmtTkCreationRead, TpmtTkHashcheckRead, TpmtTkVerifiedRead,
-};
-use attest::attestation::TpmsAttestRead;
-use attest::list::TpmlPcrSelectionRead;
-use capabilities::tpms::TpmsCapabilityDataRead;
-use ciphers::tpmt::{TpmtHaRead, TpmtSymDefRead};
+use areas::tpmt::{TpmtNvPublic2, TpmtTkAuth, TpmtTkCreation, TpmtTkHashcheck, TpmtTkVerified};
+use attest::attestation::TpmsAttest;
+use attest::list::TpmlPcrSelection;
+use capabilities::tpms::TpmsCapabilityData;
+use ciphers::tpmt::{TpmtHa, TpmtSymDef};
 use faults::Refusal;
-use keys::tpmt::TpmtPublicRead;
-use parameters::tpmt::TpmtPublicParmsRead;
+use format::kind::Kind;
+use keys::tpmt::TpmtPublic;
+use parameters::tpmt::TpmtPublicParms;
 use schemes::tpmt::{
-    TpmtEccSchemeRead, TpmtKdfSchemeRead, TpmtKeyedhashSchemeRead, TpmtRsaDecryptRead,
-    TpmtRsaSchemeRead, TpmtSigSchemeRead,
+    TpmtEccScheme, TpmtKdfScheme, TpmtKeyedhashScheme, TpmtRsaDecrypt, TpmtRsaScheme, TpmtSigScheme,
 };
-use sensitive::tpmt::TpmtSensitiveRead;
-use signatures::tpmt::TpmtSignatureRead;
-use wire::measure::Measure;
-use wire::widen::wide_byte;
+use sensitive::tpmt::TpmtSensitive;
+use signatures::tpmt::TpmtSignature;
+use wire::unmarshal::TpmUnmarshal;
 
-fn tpmt_ha_end(s: &[u8], at: usize) -> Measure
-    ensures { measure_answer result ≡ end_of (read tpmt_ha s.now at) }
-{
-    match tpmt_ha_read(s, at) {
-        TpmtHaRead::Found(_, e) => Measure::Size(e),
-        TpmtHaRead::No(f) => Measure::No(f),
-    }
-}
-
-fn tpmt_sym_def_end(s: &[u8], at: usize) -> Measure
-    ensures { measure_answer result ≡ end_of (read tpmt_sym_def s.now at) }
-{
-    match tpmt_sym_def_read(s, at) {
-        TpmtSymDefRead::Found(_, e) => Measure::Size(e),
-        TpmtSymDefRead::No(f) => Measure::No(f),
-    }
-}
-
-fn tpmt_kdf_scheme_end(s: &[u8], at: usize) -> Measure
-    ensures { measure_answer result ≡ end_of (read tpmt_kdf_scheme s.now at) }
-{
-    match tpmt_kdf_scheme_read(s, at) {
-        TpmtKdfSchemeRead::Found(_, e) => Measure::Size(e),
-        TpmtKdfSchemeRead::No(f) => Measure::No(f),
-    }
-}
-
-fn tpmt_keyedhash_scheme_end(s: &[u8], at: usize) -> Measure
-    ensures { measure_answer result ≡ end_of (read tpmt_keyedhash_scheme s.now at) }
-{
-    match tpmt_keyedhash_scheme_read(s, at) {
-        TpmtKeyedhashSchemeRead::Found(_, e) => Measure::Size(e),
-        TpmtKeyedhashSchemeRead::No(f) => Measure::No(f),
-    }
-}
-
-fn tpmt_sig_scheme_end(s: &[u8], at: usize) -> Measure
-    ensures { measure_answer result ≡ end_of (read tpmt_sig_scheme s.now at) }
-{
-    match tpmt_sig_scheme_read(s, at) {
-        TpmtSigSchemeRead::Found(_, e) => Measure::Size(e),
-        TpmtSigSchemeRead::No(f) => Measure::No(f),
-    }
-}
-
-fn tpmt_rsa_scheme_end(s: &[u8], at: usize) -> Measure
-    ensures { measure_answer result ≡ end_of (read tpmt_asym_scheme s.now at) }
-{
-    match tpmt_rsa_scheme_read(s, at) {
-        TpmtRsaSchemeRead::Found(_, e) => Measure::Size(e),
-        TpmtRsaSchemeRead::No(f) => Measure::No(f),
-    }
-}
-
-fn tpmt_ecc_scheme_end(s: &[u8], at: usize) -> Measure
-    ensures { measure_answer result ≡ end_of (read tpmt_asym_scheme s.now at) }
-{
-    match tpmt_ecc_scheme_read(s, at) {
-        TpmtEccSchemeRead::Found(_, e) => Measure::Size(e),
-        TpmtEccSchemeRead::No(f) => Measure::No(f),
-    }
-}
-
-fn tpmt_rsa_decrypt_end(s: &[u8], at: usize) -> Measure
-    ensures { measure_answer result ≡ end_of (read tpmt_asym_scheme s.now at) }
-{
-    match tpmt_rsa_decrypt_read(s, at) {
-        TpmtRsaDecryptRead::Found(_, e) => Measure::Size(e),
-        TpmtRsaDecryptRead::No(f) => Measure::No(f),
-    }
-}
-
-fn tpmt_public_parms_end(s: &[u8], at: usize) -> Measure
-    ensures { measure_answer result ≡ end_of (read tpmt_public_parms s.now at) }
-{
-    match tpmt_public_parms_read(s, at) {
-        TpmtPublicParmsRead::Found(_, e) => Measure::Size(e),
-        TpmtPublicParmsRead::No(f) => Measure::No(f),
-    }
-}
-
-fn tpmt_signature_end(s: &[u8], at: usize) -> Measure
-    ensures { measure_answer result ≡ end_of (read tpmt_signature s.now at) }
-{
-    match tpmt_signature_read(s, at) {
-        TpmtSignatureRead::Found(_, e) => Measure::Size(e),
-        TpmtSignatureRead::No(f) => Measure::No(f),
-    }
-}
-
-fn tpmt_public_end(s: &[u8], at: usize) -> Measure
-    ensures { measure_answer result ≡ end_of (read tpmt_public s.now at) }
-{
-    match tpmt_public_read(s, at) {
-        TpmtPublicRead::Found(_, e) => Measure::Size(e),
-        TpmtPublicRead::No(f) => Measure::No(f),
-    }
-}
-
-fn tpmt_sensitive_end(s: &[u8], at: usize) -> Measure
-    ensures { measure_answer result ≡ end_of (read tpmt_sensitive s.now at) }
-{
-    match tpmt_sensitive_read(s, at) {
-        TpmtSensitiveRead::Found(_, e) => Measure::Size(e),
-        TpmtSensitiveRead::No(f) => Measure::No(f),
-    }
-}
-
-fn tpms_attest_end(s: &[u8], at: usize) -> Measure
-    ensures { measure_answer result ≡ end_of (read tpms_attest s.now at) }
-{
-    match tpms_attest_read(s, at) {
-        TpmsAttestRead::Found(_, e) => Measure::Size(e),
-        TpmsAttestRead::No(f) => Measure::No(f),
-    }
-}
-
-fn tpml_pcr_selection_end(s: &[u8], at: usize) -> Measure
-    ensures { measure_answer result ≡ end_of (read tpml_pcr_selection s.now at) }
-{
-    match tpml_pcr_selection_read(s, at) {
-        TpmlPcrSelectionRead::Found(_, e) => Measure::Size(e),
-        TpmlPcrSelectionRead::No(f) => Measure::No(f),
-    }
-}
-
-fn tpms_capability_data_end(s: &[u8], at: usize) -> Measure
-    ensures { measure_answer result ≡ end_of (read tpms_capability_data s.now at) }
-{
-    match tpms_capability_data_read(s, at) {
-        TpmsCapabilityDataRead::Found(_, e) => Measure::Size(e),
-        TpmsCapabilityDataRead::No(f) => Measure::No(f),
-    }
-}
-
-fn tpmt_nv_public2_end(s: &[u8], at: usize) -> Measure
-    ensures { measure_answer result ≡ end_of (read tpmt_nv_public2 s.now at) }
-{
-    match tpmt_nv_public2_read(s, at) {
-        TpmtNvPublic2Read::Found(_, e) => Measure::Size(e),
-        TpmtNvPublic2Read::No(f) => Measure::No(f),
-    }
-}
-
-fn tpmt_tk_creation_end(s: &[u8], at: usize) -> Measure
-    ensures { measure_answer result ≡ end_of (read tpmt_tk_creation s.now at) }
-{
-    match tpmt_tk_creation_read(s, at) {
-        TpmtTkCreationRead::Found(_, e) => Measure::Size(e),
-        TpmtTkCreationRead::No(f) => Measure::No(f),
-    }
-}
-
-fn tpmt_tk_verified_end(s: &[u8], at: usize) -> Measure
-    ensures { measure_answer result ≡ end_of (read tpmt_tk_verified s.now at) }
-{
-    match tpmt_tk_verified_read(s, at) {
-        TpmtTkVerifiedRead::Found(_, e) => Measure::Size(e),
-        TpmtTkVerifiedRead::No(f) => Measure::No(f),
-    }
-}
-
-fn tpmt_tk_hashcheck_end(s: &[u8], at: usize) -> Measure
-    ensures { measure_answer result ≡ end_of (read tpmt_tk_hashcheck s.now at) }
-{
-    match tpmt_tk_hashcheck_read(s, at) {
-        TpmtTkHashcheckRead::Found(_, e) => Measure::Size(e),
-        TpmtTkHashcheckRead::No(f) => Measure::No(f),
-    }
-}
-
-fn tpmt_tk_auth_end(s: &[u8], at: usize) -> Measure
-    ensures { measure_answer result ≡ end_of (read tpmt_tk_auth s.now at) }
-{
-    match tpmt_tk_auth_read(s, at) {
-        TpmtTkAuthRead::Found(_, e) => Measure::Size(e),
-        TpmtTkAuthRead::No(f) => Measure::No(f),
-    }
-}
-
-// By the reader of the kind. A number that is no kind is refused first.
-fn end_by_kind(kind: u8, s: &[u8], at: usize) -> Measure
-    ensures { measure_answer result ≡ end_of (read_kind kind s.now at) }
+// By the kind's own reader.
+#[tactic(auto, unfolding(format::specs::Kinds::layout_of, format::specs::Kinds::kinds))]
+fn end_by_kind(kind: Kind, s: &[u8], at: usize) -> Result<usize, Refusal>
+    ensures { measure_answer result ≡ end_of (read (layout_of (number_of kind)) s.now at) }
 {
     match kind {
-        1 => tpmt_ha_end(s, at),
-        2 => tpmt_sym_def_end(s, at),
-        3 => tpmt_kdf_scheme_end(s, at),
-        4 => tpmt_keyedhash_scheme_end(s, at),
-        5 => tpmt_sig_scheme_end(s, at),
-        6 => tpmt_rsa_scheme_end(s, at),
-        7 => tpmt_ecc_scheme_end(s, at),
-        8 => tpmt_rsa_decrypt_end(s, at),
-        9 => tpmt_public_parms_end(s, at),
-        10 => tpmt_signature_end(s, at),
-        11 => tpmt_public_end(s, at),
-        12 => tpmt_sensitive_end(s, at),
-        13 => tpms_attest_end(s, at),
-        14 => tpml_pcr_selection_end(s, at),
-        15 => tpms_capability_data_end(s, at),
-        16 => tpmt_nv_public2_end(s, at),
-        17 => tpmt_tk_creation_end(s, at),
-        18 => tpmt_tk_verified_end(s, at),
-        19 => tpmt_tk_hashcheck_end(s, at),
-        20 => tpmt_tk_auth_end(s, at),
-        _ => Measure::No(Refusal::bad_kind(wide_byte(kind))),
+        Kind::TpmtHa => TpmtHa::end(s, at),
+        Kind::TpmtSymDef => TpmtSymDef::end(s, at),
+        Kind::TpmtKdfScheme => TpmtKdfScheme::end(s, at),
+        Kind::TpmtKeyedhashScheme => TpmtKeyedhashScheme::end(s, at),
+        Kind::TpmtSigScheme => TpmtSigScheme::end(s, at),
+        Kind::TpmtRsaScheme => TpmtRsaScheme::end(s, at),
+        Kind::TpmtEccScheme => TpmtEccScheme::end(s, at),
+        Kind::TpmtRsaDecrypt => TpmtRsaDecrypt::end(s, at),
+        Kind::TpmtPublicParms => TpmtPublicParms::end(s, at),
+        Kind::TpmtSignature => TpmtSignature::end(s, at),
+        Kind::TpmtPublic => TpmtPublic::end(s, at),
+        Kind::TpmtSensitive => TpmtSensitive::end(s, at),
+        Kind::TpmsAttest => TpmsAttest::end(s, at),
+        Kind::TpmlPcrSelection => TpmlPcrSelection::end(s, at),
+        Kind::TpmsCapabilityData => TpmsCapabilityData::end(s, at),
+        Kind::TpmtNvPublic2 => TpmtNvPublic2::end(s, at),
+        Kind::TpmtTkCreation => TpmtTkCreation::end(s, at),
+        Kind::TpmtTkVerified => TpmtTkVerified::end(s, at),
+        Kind::TpmtTkHashcheck => TpmtTkHashcheck::end(s, at),
+        Kind::TpmtTkAuth => TpmtTkAuth::end(s, at),
     }
 }
 
-// Where the record of that kind that starts at `at` ends, whatever follows it, or why none does.
-pub fn record_end(kind: u8, s: &[u8], at: usize) -> Measure
+// Where the record of that kind that starts at `at` ends, whatever follows it, or why none does. A number that is no kind is refused first.
+pub fn record_end(kind: u8, s: &[u8], at: usize) -> Result<usize, Refusal>
     ensures { Ends kind s.now at result }
 {
-    end_by_kind(kind, s, at)
+    let of = Kind::try_from(kind)?;
+    end_by_kind(of, s, at)
 }

@@ -9,38 +9,29 @@ ghost use Rattle.records.specs.Runs.{divided, CountsRow, DividesRow};
 
 use crate::kind::record_end;
 use faults::Refusal;
-use format::kind::is_kind;
-use wire::measure::Measure;
+use format::kind::Kind;
 use wire::read::left;
-use wire::widen::wide_byte;
 
 // Where nothing is left, all are counted: past the end a record would be refused.
-fn count_records(kind: u8, s: &[u8]) -> Measure
+fn count_records(kind: u8, s: &[u8]) -> Result<usize, Refusal>
     requires { is_kind kind ≡ true }
     ensures { measure_answer result ≡ size_of (divided kind s.now) }
 {
     let mut at: usize = 0;
     let mut n: usize = 0;
     while left(s.len(), at) > 0 {
-        match record_end(kind, s, at) {
-            Measure::Size(e) => {
-                at = e;
-                n += 1;
-            }
-            Measure::No(f) => return Measure::No(f),
-        }
+        at = record_end(kind, s, at)?;
+        n += 1;
     }
-    Measure::Size(n)
+    Ok(n)
 }
 
 // How many records of that kind the whole of s is, or why it is no row of them. No bytes are no records.
-pub fn count(kind: u8, s: &[u8]) -> Measure
+pub fn count(kind: u8, s: &[u8]) -> Result<usize, Refusal>
     ensures { CountsRow kind s.now result }
 {
-    if is_kind(kind) {
-        return count_records(kind, s);
-    }
-    Measure::No(Refusal::bad_kind(wide_byte(kind)))
+    Kind::try_from(kind)?;
+    count_records(kind, s)
 }
 
 // The ends of the records that s was found to be, one to a cell from the first on. All of them were counted, so none is refused here.
@@ -52,29 +43,25 @@ fn put_ends(kind: u8, s: &[u8], ends: &mut [usize])
     let mut i: usize = 0;
     'cells: while left(s.len(), start) > 0 {
         match record_end(kind, s, start) {
-            Measure::Size(e) => {
-                ends[i] = e;
-                start = e;
+            Ok(end) => {
+                ends[i] = end;
+                start = end;
                 i += 1;
             }
-            Measure::No(_) => return,
+            Err(_) => return,
         }
     }
 }
 
 // How many records of that kind the whole of s is, and in ends the place behind each of them, in order. All are counted first, so that a
 // refusal leaves ends as it was; cells past the last end are kept.
-pub fn divide(kind: u8, s: &[u8], ends: &mut [usize]) -> Measure
+pub fn divide(kind: u8, s: &[u8], ends: &mut [usize]) -> Result<usize, Refusal>
     ensures { DividesRow kind s.now ends.old result ends.new }
 {
-    match count(kind, s) {
-        Measure::Size(n) => {
-            if n <= ends.len() {
-                put_ends(kind, s, ends);
-                return Measure::Size(n);
-            }
-            Measure::No(Refusal::no_room(0, n))
-        }
-        Measure::No(f) => Measure::No(f),
+    let n = count(kind, s)?;
+    if n <= ends.len() {
+        put_ends(kind, s, ends);
+        return Ok(n);
     }
+    Err(Refusal::no_room(0, n))
 }

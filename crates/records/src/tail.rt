@@ -4,7 +4,7 @@ ghost use Rattle.wire.specs.Places.{StandsAt, tail_start};
 
 // The part of the input from `end` on: the tail of a record that ends there. Past the input's end it is the empty one at the start.
 pub fn tail_of(s: &[u8], end: usize) -> &[u8]
-    ensures result_value { result.now ≡ drop end s.now }
+    ensures part { result.now ≡ drop end s.now }
     ensures place { StandsAt s.entry result (tail_start end s.now) }
 {
     if end <= s.len() {

@@ -8,9 +8,9 @@ use mathlib.Core.Logic.{◌⊎◌, inl, inr}
 use mathlib.Core.Bool.{true, false}
 use mathlib.Core.List.{List, ◌++◌}
 use lib.ListN.{length, take, drop}
+use Rattle.std.specs.Prelude.{Err, Ok, Result}
 use Rattle.faults.specs.declared.Refusal.{Refusal}
 use Rattle.faults.specs.Faults.{no_room, bad_kind}
-use Rattle.wire.specs.declared.measure.Measure.{Measure}
 use Rattle.wire.specs.Answers.{measure_answer}
 use Rattle.wire.specs.Bytes.{Bytes}
 use Rattle.wire.specs.Layout.{Layout}
@@ -21,7 +21,7 @@ use Rattle.wire.specs.Writing.{lay}
 use Rattle.wire.specs.Filling.{written, filled, lend}
 use Rattle.wire.specs.Unwritten.{Shaped, Unwritten}
 use Rattle.wire.proofs.Stand.{stands_start}
-use Rattle.wire.proofs.Steps.{found_refused, found_same, refused_same, parsed_same}
+use Rattle.wire.proofs.Steps.{found_refused, refused_same, parsed_same}
 use Rattle.wire.proofs.Complete.{read_complete, placed_shows}
 use Rattle.wire.proofs.Written.{read_then_lay, lay_sound, lay_then_read}
 use Rattle.wire.proofs.Had.{refused_write_had_few}
@@ -100,15 +100,15 @@ module _ (l : Layout) (ps : List Part) (src old last : List ℕ) (b : Bytes src)
 
 -- ---- for `search`: m was measured, a writer answered r of the k bytes that it was lent, and then a reader of what the buffer holds
 
-module _ (l : Layout) (ps : List Part) (src old last : List ℕ) (k : ℕ) (m r : Measure) where
+module _ (l : Layout) (ps : List Part) (src old last : List ℕ) (k : ℕ) (m r : Result ℕ Refusal) where
   pub written_back : {n : ℕ} {a : Ans Parsed} → Bytes src → Measures l ps src m → (k ≡ lend (measure_answer m) (length old)) × (k ≤ length old) → Writes l ps src (take k old) r last
-      → r ≡ Measure.Size n → a ≡ read l (last ++ drop k old) 0 → ReadsBack l ps src old a (last ++ drop k old)
+      → r ≡ Ok n → a ≡ read l (last ++ drop k old) 0 → ReadsBack l ps src old a (last ++ drop k old)
   written_back b m lent w e p =
       let all = lent_is_written m lent.0 w in
       reads_back l ps src old (last ++ drop k old) b all.buffer all.shaped (p ∙ ap (λ x. next x (λ n. read l (last ++ drop k old) 0)) (ap measure_answer (sym e) ∙ all.answer))
 
   pub not_written : {f : Refusal} → Bytes src → Measures l ps src m → (k ≡ lend (measure_answer m) (length old)) × (k ≤ length old) → Writes l ps src (take k old) r last
-      → r ≡ Measure.No f → ReadsBack l ps src old (refused f) (last ++ drop k old)
+      → r ≡ Err f → ReadsBack l ps src old (refused f) (last ++ drop k old)
   not_written b m lent w e =
       let all = lent_is_written m lent.0 w in
       reads_back l ps src old (last ++ drop k old) b all.buffer all.shaped (ap (λ x. next x (λ n. read l (last ++ drop k old) 0)) (ap measure_answer (sym e) ∙ all.answer))
@@ -128,43 +128,30 @@ back_ends {l} {ps} {src} {old} {a} {last} b r = by (written 0 (lay l ps src 0) o
         ap end_of (answered w ∙ again) ∙ ap found (sym size)
     by (refused f) w = ap end_of (answered w)
 
--- `ans` says what a reader's answers mean: a is the first one, and b says which it is
-module _ {A : Type 0} (ans : A → Ans Parsed) (a b : A) (l : Layout) (src old last : List ℕ) where
-  -- a record was read, written, and read back, with the answer c, which is d
-  pub read_again : (c d : A) (ps : List Part) (r : Measure) → Bytes src → a ≡ b → ans a ≡ read l src 0 → ReadsBack l ps src old (ans c) last → c ≡ d
-      → next (ans b) (λ p. found p.parts) ≡ found ps → measure_answer r ≡ end_of (ans d) → Rewrites (read l src 0) src old r last
-  read_again c d ps r bytes q told back q' is given = by (ans b) refl
-    where
-      size : measure_answer r ≡ written 0 (lay l ps src 0) old
-      size = given ∙ ap (λ x. end_of (ans x)) (sym q') ∙ back_ends bytes back
-
-      by : (x : Ans Parsed) → ans b ≡ x → Rewrites (read l src 0) src old r last
-      by (found p) e =
-          let there : read l src 0 ≡ found p = sym told ∙ ap ans q ∙ e in
-          let parts : p.parts ≡ ps = found_same (sym (ap (λ x. next x (λ p. found p.parts)) e) ∙ is) in
-          let all : p.stops - 0 ≡ p.stops = omega arith in
-          let laid : lay l ps src 0 ≡ bytes_read (read l src 0) src =
-          ap (λ qs. lay l qs src 0) (sym parts) ∙ read_then_lay l src 0 0 p bytes (omega arith) there ∙ ap (λ n. found (take n src)) all ∙ ap (λ x. bytes_read x src) (sym there) in
-          record { answer = size ∙ ap (λ x. written 0 x old) laid; buffer = back.buffer ∙ ap (λ x. filled 0 x old) laid }
-      by (refused f) e = absurd (found_refused (sym (ap (λ x. next x (λ p. found p.parts)) e) ∙ is))
+-- a record was read, written, and read back, with the answer a
+pub read_again : (l : Layout) (src old last : List ℕ) {ps : List Part} {e : ℕ} {a : Ans Parsed} (r : Result ℕ Refusal) → Bytes src → parsed ps e ≡ read l src 0 → ReadsBack l ps src old a last
+    → measure_answer r ≡ end_of a → Rewrites (read l src 0) src old r last
+read_again l src old last {ps} {e} r bytes told back given =
+    let all : e - 0 ≡ e = omega arith in
+    let laid : lay l ps src 0 ≡ bytes_read (read l src 0) src =
+    read_then_lay l src 0 0 (record { parts = ps; stops = e }) bytes (omega arith) (sym told) ∙ ap (λ n. found (take n src)) all ∙ ap (λ x. bytes_read x src) told in
+    record { answer = given ∙ back_ends bytes back ∙ ap (λ x. written 0 x old) laid; buffer = back.buffer ∙ ap (λ x. filled 0 x old) laid }
 
 -- none was
-pub none_again : {A : Type 0} (ans : A → Ans Parsed) (a b : A) (l : Layout) (src old : List ℕ) (f : Refusal) → a ≡ b → ans a ≡ read l src 0 → refused f ≡ ans b → Rewrites (read l src 0) src old (Measure.No f) old
-none_again ans a b l src old f q told is =
-    let there : refused f ≡ read l src 0 = is ∙ sym (ap ans q) ∙ told in
-    record { answer = ap (λ x. written 0 (bytes_read x src) old) there; buffer = ap (λ x. filled 0 (bytes_read x src) old) there }
+pub none_again : (l : Layout) (src old : List ℕ) (f : Refusal) → refused f ≡ read l src 0 → Rewrites (read l src 0) src old (Err f) old
+none_again l src old f there = record { answer = ap (λ x. written 0 (bytes_read x src) old) there; buffer = ap (λ x. filled 0 (bytes_read x src) old) there }
 
 -- ---- by the kind's number
 
-pub kind_again : (j k : ℕ) (src old last : List ℕ) (r : Measure) → k ≡ j → is_kind j ≡ true → Rewrites (read (layout_of j) src 0) src old r last → Rewrites (read_kind k src 0) src old r last
+pub kind_again : (j k : ℕ) (src old last : List ℕ) (r : Result ℕ Refusal) → k ≡ j → is_kind j ≡ true → Rewrites (read (layout_of j) src 0) src old r last → Rewrites (read_kind k src 0) src old r last
 kind_again j k src old last r e h p = rw (← of_kind j src 0 e h) p
 
-pub no_kind_again : (k : ℕ) (src old : List ℕ) {f : Refusal} → f ≡ bad_kind k → is_kind k ≡ false → Rewrites (read_kind k src 0) src old (Measure.No f) old
+pub no_kind_again : (k : ℕ) (src old : List ℕ) {f : Refusal} → f ≡ bad_kind k → is_kind k ≡ false → Rewrites (read_kind k src 0) src old (Err f) old
 no_kind_again k src old {f} e h =
     let there : refused f ≡ read_kind k src 0 = ap refused e ∙ no_kind_read k src 0 h in
     record { answer = ap (λ x. written 0 (bytes_read x src) old) there; buffer = ap (λ x. filled 0 (bytes_read x src) old) there }
 
-pub again : (k : ℕ) (src old last : List ℕ) (r : Measure) → Bytes src → Rewrites (read_kind k src 0) src old r last → Again k src old r last
+pub again : (k : ℕ) (src old last : List ℕ) (r : Result ℕ Refusal) → Bytes src → Rewrites (read_kind k src 0) src old r last → Again k src old r last
 unfolding record_bytes
 again k src old last r b p = record { copies = copied; reads_again = shows_same }
   where

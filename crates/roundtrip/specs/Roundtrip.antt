@@ -1,8 +1,7 @@
 -- A record that is written and read again, and one that is read, written and read again. Assumes nothing.
-use Rattle.std.specs.Prelude.{ℕ, ◌≤◌, ◌<◌, ◌≡◌, ◌⊎◌, List, ◌++◌, length, drop}
+use Rattle.std.specs.Prelude.{ℕ, ◌≤◌, ◌<◌, ◌≡◌, ◌⊎◌, List, ◌++◌, length, drop, Result}
 use Rattle.faults.specs.declared.Refusal.{Refusal}
 use Rattle.faults.specs.Faults.{no_room}
-use Rattle.wire.specs.declared.measure.Measure.{Measure}
 use Rattle.wire.specs.Answers.{measure_answer}
 use Rattle.wire.specs.Layout.{Layout}
 use Rattle.wire.specs.Records.{Part, Ans, refused, next, Parsed, parsed}
@@ -38,14 +37,14 @@ pub record ReadsBack (l : Layout) (ps : List Part) (src old : List ℕ) (a : Ans
 
 -- A record that a reader answered of the front of src was written: its size and its bytes, or the first refusal. This determines the answer
 -- r, and what the buffer holds afterwards
-pub record Rewrites (answered : Ans Parsed) (src old : List ℕ) (r : Measure) (last : List ℕ) : Type 0 where
+pub record Rewrites (answered : Ans Parsed) (src old : List ℕ) (r : Result ℕ Refusal) (last : List ℕ) : Type 0 where
   pub answer : measure_answer r ≡ written 0 (bytes_read answered src) old
   pub buffer : last ≡ filled 0 (bytes_read answered src) old
 
 -- What is owed to whoever has the record of a kind read from the front of src, written, and read again from where it was written: all that
 -- a copy owes; and that what a reader finds in the buffer shows what the record showed. The second follows from the first. What the type's
 -- own reader answers there is owed by ReadsBack
-pub record Again (kind : ℕ) (src old : List ℕ) (r : Measure) (last : List ℕ) : Type 0 where
+pub record Again (kind : ℕ) (src old : List ℕ) (r : Result ℕ Refusal) (last : List ℕ) : Type 0 where
   pub copies : Copies kind src old r last
   pub reads_again : {ts : List Token} {bs : List ℕ} → Begins kind src ts bs → length bs ≤ length old
       → (qs : List Part) × (read (layout_of kind) last 0 ≡ parsed qs (length bs)) × (shown last qs ≡ ts)

@@ -1,52 +1,25 @@
 // The listing of a row: of each record the line `record N at PLACE`, and then its own listing, as if it stood alone.
-ghost use Rattle.std.specs.Prelude.{◌≡◌, length};
-
+use crate::said::say;
 use listing::deposit::{LISTING_ROOM, list_record};
 use records::kind::record_end;
-use text::answer::fit_record_at_line;
-use wire::measure::Measure;
-
-fn say_place(number: usize, place: usize) {
-    let mut line = [0u8; 52];
-    let n = fit_record_at_line(number, place, &mut line, 0);
-    if n <= 52 {
-        io::write_all(1, &line[..n]);
-    }
-}
+use text::answer::Answer;
 
 fn say_record(kind: u8, record: &[u8], out: &mut [u8]) {
-    match list_record(kind, record, out) {
-        Measure::Size(n) => {
-            io::write_all(1, &out[..n]);
-        }
-        Measure::No(_) => {}
+    if let Ok(n) = list_record(kind, record, out) {
+        io::write_all(1, &out[..n]);
     }
 }
 
 // By where each record ends, and not by the cells: there may be too few of them.
-fn list_records(kind: u8, s: &[u8], out: &mut [u8]) {
-    let mut at: usize = 0;
-    let mut number: usize = 0;
-    while at < s.len() {
-        match record_end(kind, s, at) {
-            Measure::Size(e) => {
-                number += 1;
-                say_place(number, at);
-                say_record(kind, &s[at..e], out);
-                at = e;
-            }
-            Measure::No(_) => return,
-        }
+pub fn list_run(kind: u8, s: &[u8], n: usize) {
+    let mut out = [0u8; LISTING_ROOM];
+    let mut place: usize = 0;
+    for number in 1..=n {
+        let Ok(end) = record_end(kind, s, place) else {
+            return;
+        };
+        say(Answer::RecordAt { number, place });
+        say_record(kind, &s[place..end], &mut out);
+        place = end;
     }
-}
-
-fn listing_room() -> [u8; LISTING_ROOM]
-    ensures { 16384 ≡ length result }
-{
-    [0; LISTING_ROOM]
-}
-
-pub fn list_run(kind: u8, s: &[u8]) {
-    let mut out = listing_room();
-    list_records(kind, s, &mut out);
 }

@@ -7,102 +7,54 @@
 mod listed;
 mod said;
 
-ghost use Rattle.std.specs.Prelude.{◌≡◌, length};
-
 use crate::listed::list_run;
 use crate::said::{UNTOUCHED, say_count, say_divided};
-use codes::uint::{Uint16Read, uint16};
 use records::runs::{count, divide};
-use wire::measure::Measure;
+use wire::unmarshal::TpmUnmarshal;
 
 // What stands ahead of the row.
 const HEAD: usize = 3;
 
-const MOST_CELLS: usize = 256;
+const CELLS_MOST: usize = 256;
 
-const MOST_CASE: usize = 65535;
+const CASE_MOST: usize = 65535;
 
-// So many of the cells are lent; that no other is changed is looked for in all of them.
-fn answer_cells(kind: u8, s: &[u8], counted: Measure, lent: usize, cells: &mut [usize]) {
-    if lent > cells.len() {
-        return;
-    }
-    let divided = divide(kind, s, &mut cells[..lent]);
-    say_divided(kind, counted, divided, cells);
-}
-
-fn cells() -> [usize; MOST_CELLS]
-    ensures { 256 ≡ length result }
-{
-    [UNTOUCHED; MOST_CELLS]
-}
-
-fn answer(kind: u8, lent: usize, s: &[u8]) {
+// No answer to a case that is shorter than its head, or asks for more cells than there are. That no cell is changed but those that are
+// lent is looked for in all of them.
+fn answer_case(case: &[u8]) -> Option<()> {
+    let (head, s) = case.split_first_chunk::<HEAD>()?;
+    let kind = head[0];
+    let lent = u16::from_be_bytes([head[1], head[2]]);
+    let mut cells = [UNTOUCHED; CELLS_MOST];
+    let room = cells.get_mut(..usize::from(lent))?;
     let counted = count(kind, s);
     say_count(kind, counted);
-    let mut room = cells();
-    answer_cells(kind, s, counted, lent, &mut room);
-    match counted {
-        Measure::Size(_) => list_run(kind, s),
-        Measure::No(_) => {}
+    let divided = divide(kind, s, room);
+    say_divided(kind, counted, divided, &cells);
+    if let Ok(n) = counted {
+        list_run(kind, s, n);
     }
+    Some(())
 }
 
-// Two bytes as a number, and one that is larger than any such number where they are missing.
-fn two(s: &[u8], at: usize) -> usize {
-    match uint16(s, at) {
-        Uint16Read::Found(n, _) => n as usize,
-        Uint16Read::No(_) => 65536,
-    }
-}
-
-// No answer to a case that is shorter than its head, or asks for more cells than there are.
-fn answer_case(case: &[u8]) -> bool {
-    let lent = two(case, 1);
-    if lent > MOST_CELLS {
-        return false;
-    }
-    if case.len() < HEAD {
-        return false;
-    }
-    answer(case[0], lent, &case[HEAD..]);
-    true
-}
-
-// Answers a case of that length, if space has room for one and so many bytes come.
-fn answer_one(length: usize, space: &mut [u8]) -> bool {
-    if length > space.len() {
-        return false;
-    }
-    let taken = io::read_full(0, &mut space[..length]);
-    if taken < length {
-        return false;
-    }
-    answer_case(&space[..length])
-}
-
-// The length of the next case; one that no case has stands for the input's end.
-fn next_length() -> usize {
+// Answers the next case; None at the end of the input, and where a case is cut short.
+fn answer_next() -> Option<()> {
     let mut head = [0u8; 2];
+    let mut space = [0u8; CASE_MOST];
     let taken = io::read_full(0, &mut head);
-    two(&head[..taken], 0)
-}
-
-// A proved loop has to end, and nothing says that an input does: this one counts down from a number that no run uses up.
-fn answer_all(space: &mut [u8]) {
-    let mut turns = u64::MAX;
-    while turns > 0 && answer_one(next_length(), space) {
-        turns -= 1;
+    let (length, _) = u16::unmarshal(&head[..taken], 0).ok()?;
+    let case = space.get_mut(..usize::from(length))?;
+    if io::read_full(0, case) < case.len() {
+        return None;
     }
+    answer_case(case)
 }
 
-fn case_room() -> [u8; MOST_CASE]
-    ensures { 65535 ≡ length result }
-{
-    [0; MOST_CASE]
-}
-
+// A proved loop has to end, and nothing says that an input does: this one has more turns than any run uses up.
 fn main() {
-    let mut space = case_room();
-    answer_all(&mut space);
+    for _ in 0..u64::MAX {
+        if answer_next().is_none() {
+            return;
+        }
+    }
 }

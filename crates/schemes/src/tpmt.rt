@@ -1,26 +1,14 @@
 // Kinds 3 to 8: a selector, and the union that it chooses from. Each has the calls that a kind has (ciphers, tpmt.rt).
-ghost use Rattle.std.specs.Prelude.{◌≡◌, []};
-ghost use Rattle.faults.specs.Faults.{no_field};
-ghost use Rattle.wire.specs.Records.{refused};
-ghost use Rattle.wire.specs.Reading.{read, read_whole};
-ghost use Rattle.wire.specs.Answers.{measure_answer};
-ghost use Rattle.wire.specs.Fields.{part_of, size_of, field_of};
-ghost use Rattle.wire.specs.Places.{StandsAt, start_at};
+ghost use Rattle.std.specs.Prelude.{[], refl};
 ghost use Rattle.format.specs.Kinds.{tpmt_kdf_scheme, tpmt_keyedhash_scheme, tpmt_sig_scheme, tpmt_asym_scheme};
-ghost use Rattle.steps.specs.Walks.{here, Walks};
-ghost use Rattle.steps.specs.Writes.{Measures, Writes};
-ghost use Rattle.schemes.specs.Answers.{tpmt_kdf_scheme_answer, tpmt_keyedhash_scheme_answer, tpmt_sig_scheme_answer, tpmt_rsa_scheme_answer, tpmt_ecc_scheme_answer, tpmt_rsa_decrypt_answer};
 ghost use Rattle.schemes.specs.Parts.{tpmt_kdf_scheme_parts, tpmt_keyedhash_scheme_parts, tpmt_sig_scheme_parts, tpmt_rsa_scheme_parts, tpmt_ecc_scheme_parts, tpmt_rsa_decrypt_parts};
 
-use crate::tpmu::{
-    TpmuAsymScheme, TpmuAsymSchemeRead, TpmuKdfScheme, TpmuKdfSchemeRead, TpmuKeyedhashScheme,
-    TpmuKeyedhashSchemeRead, TpmuSigScheme, TpmuSigSchemeRead,
-};
-use codes::{TpmAlgId, TpmAlgIdRead};
-use faults::Refusal;
-use steps::walk::{Walk, judging, ready, seeking};
-use wire::measure::Measure;
-use wire::read::nothing_behind;
+use crate::tpmu::{TpmuAsymScheme, TpmuKdfScheme, TpmuKeyedhashScheme, TpmuSigScheme};
+use codes::TpmAlgId;
+use steps::marshal::{Listless, TpmMarshal};
+use steps::walk::Walk;
+use wire::read::Read;
+use wire::unmarshal::TpmUnmarshal;
 
 #[derive(Clone, Copy)]
 pub struct TpmtKdfScheme {
@@ -58,536 +46,182 @@ pub struct TpmtRsaDecrypt {
     pub details: TpmuAsymScheme,
 }
 
-#[derive(Clone, Copy)]
-pub enum TpmtKdfSchemeRead {
-    Found(TpmtKdfScheme, usize),
-    No(Refusal),
-}
+impl TpmUnmarshal for TpmtKdfScheme {
+    ghost layout = { tpmt_kdf_scheme };
 
-#[derive(Clone, Copy)]
-pub enum TpmtKeyedhashSchemeRead {
-    Found(TpmtKeyedhashScheme, usize),
-    No(Refusal),
-}
+    ghost parts = { tpmt_kdf_scheme_parts };
 
-#[derive(Clone, Copy)]
-pub enum TpmtSigSchemeRead {
-    Found(TpmtSigScheme, usize),
-    No(Refusal),
-}
-
-#[derive(Clone, Copy)]
-pub enum TpmtRsaSchemeRead {
-    Found(TpmtRsaScheme, usize),
-    No(Refusal),
-}
-
-#[derive(Clone, Copy)]
-pub enum TpmtEccSchemeRead {
-    Found(TpmtEccScheme, usize),
-    No(Refusal),
-}
-
-#[derive(Clone, Copy)]
-pub enum TpmtRsaDecryptRead {
-    Found(TpmtRsaDecrypt, usize),
-    No(Refusal),
-}
-
-impl TpmtKdfScheme {
     // Kind 3, TPMT_KDF_SCHEME, read.
-    pub fn unmarshal(s: &[u8], at: usize) -> TpmtKdfSchemeRead
-        ensures { tpmt_kdf_scheme_answer result ≡ read tpmt_kdf_scheme s.now at }
-    {
-        let mut end = at;
-        let scheme = match TpmAlgId::unmarshal(s, end) {
-            TpmAlgIdRead::Found(v, e) => {
-                end = e;
-                v
-            }
-            TpmAlgIdRead::No(f) => return TpmtKdfSchemeRead::No(f),
-        };
-        let details = match TpmuKdfScheme::unmarshal_tagged(scheme, s, end) {
-            TpmuKdfSchemeRead::Found(v, e) => {
-                end = e;
-                v
-            }
-            TpmuKdfSchemeRead::No(f) => return TpmtKdfSchemeRead::No(f),
-        };
-        TpmtKdfSchemeRead::Found(Self { scheme, details }, end)
-    }
-
-    pub fn whole(s: &[u8], at: usize) -> TpmtKdfSchemeRead
-        ensures { tpmt_kdf_scheme_answer result ≡ read_whole tpmt_kdf_scheme s.now at }
-    {
-        match Self::unmarshal(s, at) {
-            TpmtKdfSchemeRead::Found(x, e) => match nothing_behind(s, e) {
-                Measure::Size(_) => TpmtKdfSchemeRead::Found(x, e),
-                Measure::No(f) => TpmtKdfSchemeRead::No(f),
-            },
-            TpmtKdfSchemeRead::No(f) => TpmtKdfSchemeRead::No(f),
-        }
-    }
-
-    pub fn walk(self, w: Walk, src: &[u8], out: &mut [u8]) -> Walk
-        ensures { Walks 3 tpmt_kdf_scheme (tpmt_kdf_scheme_parts self) [] src.now (here w out.old) (here result out.new) }
-    {
-        let details = self.details;
-        details.walk_tagged(self.scheme, w.algorithm(self.scheme, out), src, out)
-    }
-
-    pub fn measure(self, src: &[u8]) -> Measure
-        ensures { Measures tpmt_kdf_scheme (tpmt_kdf_scheme_parts self) src.now result }
-    {
-        self.walk(judging(0), src, &mut []).answer()
-    }
-
-    pub fn marshal(self, src: &[u8], out: &mut [u8]) -> Measure
-        ensures { Writes tpmt_kdf_scheme (tpmt_kdf_scheme_parts self) src.now out.old result out.new }
-    {
-        let w = ready(self.measure(src), out.len());
-        self.walk(w, src, out).answer()
-    }
-
-    pub fn field<'a>(self, s: &'a [u8], index: usize) -> &'a [u8]
-        ensures result_value { result.now ≡ part_of (field_of (tpmt_kdf_scheme_parts self) index s.now) }
-        ensures place { StandsAt s.entry result (start_at (tpmt_kdf_scheme_parts self) index s.now) }
-    {
-        self.walk(seeking(index), s, &mut []).part(s)
-    }
-
-    pub fn field_size(self, s: &[u8], index: usize) -> Measure
-        ensures { measure_answer result ≡ size_of (field_of (tpmt_kdf_scheme_parts self) index s.now) }
-    {
-        self.walk(seeking(index), s, &mut []).size(s, index)
-    }
-
-    // It has no list.
-    pub fn item<'a>(self, s: &'a [u8], index: usize) -> &'a [u8]
-        ensures result_value { result.now ≡ [] }
-        ensures place { StandsAt s.entry result 0 }
-    {
-        &s[0..0]
-    }
-
-    pub fn item_size(self, s: &[u8], index: usize) -> Measure
-        ensures { measure_answer result ≡ refused (no_field index) }
-    {
-        Measure::No(Refusal::no_field(index))
+    fn unmarshal(s: &[u8], at: usize) -> Read<Self> {
+        let (scheme, end) = TpmAlgId::unmarshal(s, at)?;
+        let (details, end) = TpmuKdfScheme::unmarshal_tagged(scheme, s, end)?;
+        Ok((Self { scheme, details }, end))
     }
 }
 
-impl TpmtKeyedhashScheme {
+impl TpmMarshal for TpmtKdfScheme {
+    ghost lists = { λ _. [] };
+
+    ghost one_list = { λ _. refl };
+
+    ghost steps = { 3 };
+
+    ghost few = { refl };
+
+    fn walk(self, w: Walk, src: &[u8], out: &mut [u8]) -> Walk {
+        self.details
+            .walk_tagged(self.scheme, w.code(self.scheme, out), src, out)
+    }
+}
+
+impl Listless for TpmtKdfScheme {}
+
+impl TpmUnmarshal for TpmtKeyedhashScheme {
+    ghost layout = { tpmt_keyedhash_scheme };
+
+    ghost parts = { tpmt_keyedhash_scheme_parts };
+
     // Kind 4, TPMT_KEYEDHASH_SCHEME, read.
-    pub fn unmarshal(s: &[u8], at: usize) -> TpmtKeyedhashSchemeRead
-        ensures { tpmt_keyedhash_scheme_answer result ≡ read tpmt_keyedhash_scheme s.now at }
-    {
-        let mut end = at;
-        let scheme = match TpmAlgId::unmarshal(s, end) {
-            TpmAlgIdRead::Found(v, e) => {
-                end = e;
-                v
-            }
-            TpmAlgIdRead::No(f) => return TpmtKeyedhashSchemeRead::No(f),
-        };
-        let details = match TpmuKeyedhashScheme::unmarshal_tagged(scheme, s, end) {
-            TpmuKeyedhashSchemeRead::Found(v, e) => {
-                end = e;
-                v
-            }
-            TpmuKeyedhashSchemeRead::No(f) => return TpmtKeyedhashSchemeRead::No(f),
-        };
-        TpmtKeyedhashSchemeRead::Found(Self { scheme, details }, end)
-    }
-
-    pub fn whole(s: &[u8], at: usize) -> TpmtKeyedhashSchemeRead
-        ensures { tpmt_keyedhash_scheme_answer result ≡ read_whole tpmt_keyedhash_scheme s.now at }
-    {
-        match Self::unmarshal(s, at) {
-            TpmtKeyedhashSchemeRead::Found(x, e) => match nothing_behind(s, e) {
-                Measure::Size(_) => TpmtKeyedhashSchemeRead::Found(x, e),
-                Measure::No(f) => TpmtKeyedhashSchemeRead::No(f),
-            },
-            TpmtKeyedhashSchemeRead::No(f) => TpmtKeyedhashSchemeRead::No(f),
-        }
-    }
-
-    pub fn walk(self, w: Walk, src: &[u8], out: &mut [u8]) -> Walk
-        ensures { Walks 4 tpmt_keyedhash_scheme (tpmt_keyedhash_scheme_parts self) [] src.now (here w out.old) (here result out.new) }
-    {
-        let details = self.details;
-        details.walk_tagged(self.scheme, w.algorithm(self.scheme, out), src, out)
-    }
-
-    pub fn measure(self, src: &[u8]) -> Measure
-        ensures { Measures tpmt_keyedhash_scheme (tpmt_keyedhash_scheme_parts self) src.now result }
-    {
-        self.walk(judging(0), src, &mut []).answer()
-    }
-
-    pub fn marshal(self, src: &[u8], out: &mut [u8]) -> Measure
-        ensures { Writes tpmt_keyedhash_scheme (tpmt_keyedhash_scheme_parts self) src.now out.old result out.new }
-    {
-        let w = ready(self.measure(src), out.len());
-        self.walk(w, src, out).answer()
-    }
-
-    pub fn field<'a>(self, s: &'a [u8], index: usize) -> &'a [u8]
-        ensures result_value { result.now ≡ part_of (field_of (tpmt_keyedhash_scheme_parts self) index s.now) }
-        ensures place { StandsAt s.entry result (start_at (tpmt_keyedhash_scheme_parts self) index s.now) }
-    {
-        self.walk(seeking(index), s, &mut []).part(s)
-    }
-
-    pub fn field_size(self, s: &[u8], index: usize) -> Measure
-        ensures { measure_answer result ≡ size_of (field_of (tpmt_keyedhash_scheme_parts self) index s.now) }
-    {
-        self.walk(seeking(index), s, &mut []).size(s, index)
-    }
-
-    // It has no list.
-    pub fn item<'a>(self, s: &'a [u8], index: usize) -> &'a [u8]
-        ensures result_value { result.now ≡ [] }
-        ensures place { StandsAt s.entry result 0 }
-    {
-        &s[0..0]
-    }
-
-    pub fn item_size(self, s: &[u8], index: usize) -> Measure
-        ensures { measure_answer result ≡ refused (no_field index) }
-    {
-        Measure::No(Refusal::no_field(index))
+    fn unmarshal(s: &[u8], at: usize) -> Read<Self> {
+        let (scheme, end) = TpmAlgId::unmarshal(s, at)?;
+        let (details, end) = TpmuKeyedhashScheme::unmarshal_tagged(scheme, s, end)?;
+        Ok((Self { scheme, details }, end))
     }
 }
 
-impl TpmtSigScheme {
+impl TpmMarshal for TpmtKeyedhashScheme {
+    ghost lists = { λ _. [] };
+
+    ghost one_list = { λ _. refl };
+
+    ghost steps = { 4 };
+
+    ghost few = { refl };
+
+    fn walk(self, w: Walk, src: &[u8], out: &mut [u8]) -> Walk {
+        self.details
+            .walk_tagged(self.scheme, w.code(self.scheme, out), src, out)
+    }
+}
+
+impl Listless for TpmtKeyedhashScheme {}
+
+impl TpmUnmarshal for TpmtSigScheme {
+    ghost layout = { tpmt_sig_scheme };
+
+    ghost parts = { tpmt_sig_scheme_parts };
+
     // Kind 5, TPMT_SIG_SCHEME, read.
-    pub fn unmarshal(s: &[u8], at: usize) -> TpmtSigSchemeRead
-        ensures { tpmt_sig_scheme_answer result ≡ read tpmt_sig_scheme s.now at }
-    {
-        let mut end = at;
-        let scheme = match TpmAlgId::unmarshal(s, end) {
-            TpmAlgIdRead::Found(v, e) => {
-                end = e;
-                v
-            }
-            TpmAlgIdRead::No(f) => return TpmtSigSchemeRead::No(f),
-        };
-        let details = match TpmuSigScheme::unmarshal_tagged(scheme, s, end) {
-            TpmuSigSchemeRead::Found(v, e) => {
-                end = e;
-                v
-            }
-            TpmuSigSchemeRead::No(f) => return TpmtSigSchemeRead::No(f),
-        };
-        TpmtSigSchemeRead::Found(Self { scheme, details }, end)
-    }
-
-    pub fn whole(s: &[u8], at: usize) -> TpmtSigSchemeRead
-        ensures { tpmt_sig_scheme_answer result ≡ read_whole tpmt_sig_scheme s.now at }
-    {
-        match Self::unmarshal(s, at) {
-            TpmtSigSchemeRead::Found(x, e) => match nothing_behind(s, e) {
-                Measure::Size(_) => TpmtSigSchemeRead::Found(x, e),
-                Measure::No(f) => TpmtSigSchemeRead::No(f),
-            },
-            TpmtSigSchemeRead::No(f) => TpmtSigSchemeRead::No(f),
-        }
-    }
-
-    pub fn walk(self, w: Walk, src: &[u8], out: &mut [u8]) -> Walk
-        ensures { Walks 4 tpmt_sig_scheme (tpmt_sig_scheme_parts self) [] src.now (here w out.old) (here result out.new) }
-    {
-        let details = self.details;
-        details.walk_tagged(self.scheme, w.algorithm(self.scheme, out), src, out)
-    }
-
-    pub fn measure(self, src: &[u8]) -> Measure
-        ensures { Measures tpmt_sig_scheme (tpmt_sig_scheme_parts self) src.now result }
-    {
-        self.walk(judging(0), src, &mut []).answer()
-    }
-
-    pub fn marshal(self, src: &[u8], out: &mut [u8]) -> Measure
-        ensures { Writes tpmt_sig_scheme (tpmt_sig_scheme_parts self) src.now out.old result out.new }
-    {
-        let w = ready(self.measure(src), out.len());
-        self.walk(w, src, out).answer()
-    }
-
-    pub fn field<'a>(self, s: &'a [u8], index: usize) -> &'a [u8]
-        ensures result_value { result.now ≡ part_of (field_of (tpmt_sig_scheme_parts self) index s.now) }
-        ensures place { StandsAt s.entry result (start_at (tpmt_sig_scheme_parts self) index s.now) }
-    {
-        self.walk(seeking(index), s, &mut []).part(s)
-    }
-
-    pub fn field_size(self, s: &[u8], index: usize) -> Measure
-        ensures { measure_answer result ≡ size_of (field_of (tpmt_sig_scheme_parts self) index s.now) }
-    {
-        self.walk(seeking(index), s, &mut []).size(s, index)
-    }
-
-    // It has no list.
-    pub fn item<'a>(self, s: &'a [u8], index: usize) -> &'a [u8]
-        ensures result_value { result.now ≡ [] }
-        ensures place { StandsAt s.entry result 0 }
-    {
-        &s[0..0]
-    }
-
-    pub fn item_size(self, s: &[u8], index: usize) -> Measure
-        ensures { measure_answer result ≡ refused (no_field index) }
-    {
-        Measure::No(Refusal::no_field(index))
+    fn unmarshal(s: &[u8], at: usize) -> Read<Self> {
+        let (scheme, end) = TpmAlgId::unmarshal(s, at)?;
+        let (details, end) = TpmuSigScheme::unmarshal_tagged(scheme, s, end)?;
+        Ok((Self { scheme, details }, end))
     }
 }
 
-impl TpmtRsaScheme {
+impl TpmMarshal for TpmtSigScheme {
+    ghost lists = { λ _. [] };
+
+    ghost one_list = { λ _. refl };
+
+    ghost steps = { 4 };
+
+    ghost few = { refl };
+
+    fn walk(self, w: Walk, src: &[u8], out: &mut [u8]) -> Walk {
+        self.details
+            .walk_tagged(self.scheme, w.code(self.scheme, out), src, out)
+    }
+}
+
+impl Listless for TpmtSigScheme {}
+
+impl TpmUnmarshal for TpmtRsaScheme {
+    ghost layout = { tpmt_asym_scheme };
+
+    ghost parts = { tpmt_rsa_scheme_parts };
+
     // Kind 6, TPMT_RSA_SCHEME, read.
-    pub fn unmarshal(s: &[u8], at: usize) -> TpmtRsaSchemeRead
-        ensures { tpmt_rsa_scheme_answer result ≡ read tpmt_asym_scheme s.now at }
-    {
-        let mut end = at;
-        let scheme = match TpmAlgId::unmarshal(s, end) {
-            TpmAlgIdRead::Found(v, e) => {
-                end = e;
-                v
-            }
-            TpmAlgIdRead::No(f) => return TpmtRsaSchemeRead::No(f),
-        };
-        let details = match TpmuAsymScheme::unmarshal_tagged(scheme, s, end) {
-            TpmuAsymSchemeRead::Found(v, e) => {
-                end = e;
-                v
-            }
-            TpmuAsymSchemeRead::No(f) => return TpmtRsaSchemeRead::No(f),
-        };
-        TpmtRsaSchemeRead::Found(Self { scheme, details }, end)
-    }
-
-    pub fn whole(s: &[u8], at: usize) -> TpmtRsaSchemeRead
-        ensures { tpmt_rsa_scheme_answer result ≡ read_whole tpmt_asym_scheme s.now at }
-    {
-        match Self::unmarshal(s, at) {
-            TpmtRsaSchemeRead::Found(x, e) => match nothing_behind(s, e) {
-                Measure::Size(_) => TpmtRsaSchemeRead::Found(x, e),
-                Measure::No(f) => TpmtRsaSchemeRead::No(f),
-            },
-            TpmtRsaSchemeRead::No(f) => TpmtRsaSchemeRead::No(f),
-        }
-    }
-
-    pub fn walk(self, w: Walk, src: &[u8], out: &mut [u8]) -> Walk
-        ensures { Walks 4 tpmt_asym_scheme (tpmt_rsa_scheme_parts self) [] src.now (here w out.old) (here result out.new) }
-    {
-        let details = self.details;
-        details.walk_tagged(self.scheme, w.algorithm(self.scheme, out), src, out)
-    }
-
-    pub fn measure(self, src: &[u8]) -> Measure
-        ensures { Measures tpmt_asym_scheme (tpmt_rsa_scheme_parts self) src.now result }
-    {
-        self.walk(judging(0), src, &mut []).answer()
-    }
-
-    pub fn marshal(self, src: &[u8], out: &mut [u8]) -> Measure
-        ensures { Writes tpmt_asym_scheme (tpmt_rsa_scheme_parts self) src.now out.old result out.new }
-    {
-        let w = ready(self.measure(src), out.len());
-        self.walk(w, src, out).answer()
-    }
-
-    pub fn field<'a>(self, s: &'a [u8], index: usize) -> &'a [u8]
-        ensures result_value { result.now ≡ part_of (field_of (tpmt_rsa_scheme_parts self) index s.now) }
-        ensures place { StandsAt s.entry result (start_at (tpmt_rsa_scheme_parts self) index s.now) }
-    {
-        self.walk(seeking(index), s, &mut []).part(s)
-    }
-
-    pub fn field_size(self, s: &[u8], index: usize) -> Measure
-        ensures { measure_answer result ≡ size_of (field_of (tpmt_rsa_scheme_parts self) index s.now) }
-    {
-        self.walk(seeking(index), s, &mut []).size(s, index)
-    }
-
-    // It has no list.
-    pub fn item<'a>(self, s: &'a [u8], index: usize) -> &'a [u8]
-        ensures result_value { result.now ≡ [] }
-        ensures place { StandsAt s.entry result 0 }
-    {
-        &s[0..0]
-    }
-
-    pub fn item_size(self, s: &[u8], index: usize) -> Measure
-        ensures { measure_answer result ≡ refused (no_field index) }
-    {
-        Measure::No(Refusal::no_field(index))
+    fn unmarshal(s: &[u8], at: usize) -> Read<Self> {
+        let (scheme, end) = TpmAlgId::unmarshal(s, at)?;
+        let (details, end) = TpmuAsymScheme::unmarshal_tagged(scheme, s, end)?;
+        Ok((Self { scheme, details }, end))
     }
 }
 
-impl TpmtEccScheme {
+impl TpmMarshal for TpmtRsaScheme {
+    ghost lists = { λ _. [] };
+
+    ghost one_list = { λ _. refl };
+
+    ghost steps = { 4 };
+
+    ghost few = { refl };
+
+    fn walk(self, w: Walk, src: &[u8], out: &mut [u8]) -> Walk {
+        self.details
+            .walk_tagged(self.scheme, w.code(self.scheme, out), src, out)
+    }
+}
+
+impl Listless for TpmtRsaScheme {}
+
+impl TpmUnmarshal for TpmtEccScheme {
+    ghost layout = { tpmt_asym_scheme };
+
+    ghost parts = { tpmt_ecc_scheme_parts };
+
     // Kind 7, TPMT_ECC_SCHEME, read.
-    pub fn unmarshal(s: &[u8], at: usize) -> TpmtEccSchemeRead
-        ensures { tpmt_ecc_scheme_answer result ≡ read tpmt_asym_scheme s.now at }
-    {
-        let mut end = at;
-        let scheme = match TpmAlgId::unmarshal(s, end) {
-            TpmAlgIdRead::Found(v, e) => {
-                end = e;
-                v
-            }
-            TpmAlgIdRead::No(f) => return TpmtEccSchemeRead::No(f),
-        };
-        let details = match TpmuAsymScheme::unmarshal_tagged(scheme, s, end) {
-            TpmuAsymSchemeRead::Found(v, e) => {
-                end = e;
-                v
-            }
-            TpmuAsymSchemeRead::No(f) => return TpmtEccSchemeRead::No(f),
-        };
-        TpmtEccSchemeRead::Found(Self { scheme, details }, end)
-    }
-
-    pub fn whole(s: &[u8], at: usize) -> TpmtEccSchemeRead
-        ensures { tpmt_ecc_scheme_answer result ≡ read_whole tpmt_asym_scheme s.now at }
-    {
-        match Self::unmarshal(s, at) {
-            TpmtEccSchemeRead::Found(x, e) => match nothing_behind(s, e) {
-                Measure::Size(_) => TpmtEccSchemeRead::Found(x, e),
-                Measure::No(f) => TpmtEccSchemeRead::No(f),
-            },
-            TpmtEccSchemeRead::No(f) => TpmtEccSchemeRead::No(f),
-        }
-    }
-
-    pub fn walk(self, w: Walk, src: &[u8], out: &mut [u8]) -> Walk
-        ensures { Walks 4 tpmt_asym_scheme (tpmt_ecc_scheme_parts self) [] src.now (here w out.old) (here result out.new) }
-    {
-        let details = self.details;
-        details.walk_tagged(self.scheme, w.algorithm(self.scheme, out), src, out)
-    }
-
-    pub fn measure(self, src: &[u8]) -> Measure
-        ensures { Measures tpmt_asym_scheme (tpmt_ecc_scheme_parts self) src.now result }
-    {
-        self.walk(judging(0), src, &mut []).answer()
-    }
-
-    pub fn marshal(self, src: &[u8], out: &mut [u8]) -> Measure
-        ensures { Writes tpmt_asym_scheme (tpmt_ecc_scheme_parts self) src.now out.old result out.new }
-    {
-        let w = ready(self.measure(src), out.len());
-        self.walk(w, src, out).answer()
-    }
-
-    pub fn field<'a>(self, s: &'a [u8], index: usize) -> &'a [u8]
-        ensures result_value { result.now ≡ part_of (field_of (tpmt_ecc_scheme_parts self) index s.now) }
-        ensures place { StandsAt s.entry result (start_at (tpmt_ecc_scheme_parts self) index s.now) }
-    {
-        self.walk(seeking(index), s, &mut []).part(s)
-    }
-
-    pub fn field_size(self, s: &[u8], index: usize) -> Measure
-        ensures { measure_answer result ≡ size_of (field_of (tpmt_ecc_scheme_parts self) index s.now) }
-    {
-        self.walk(seeking(index), s, &mut []).size(s, index)
-    }
-
-    // It has no list.
-    pub fn item<'a>(self, s: &'a [u8], index: usize) -> &'a [u8]
-        ensures result_value { result.now ≡ [] }
-        ensures place { StandsAt s.entry result 0 }
-    {
-        &s[0..0]
-    }
-
-    pub fn item_size(self, s: &[u8], index: usize) -> Measure
-        ensures { measure_answer result ≡ refused (no_field index) }
-    {
-        Measure::No(Refusal::no_field(index))
+    fn unmarshal(s: &[u8], at: usize) -> Read<Self> {
+        let (scheme, end) = TpmAlgId::unmarshal(s, at)?;
+        let (details, end) = TpmuAsymScheme::unmarshal_tagged(scheme, s, end)?;
+        Ok((Self { scheme, details }, end))
     }
 }
 
-impl TpmtRsaDecrypt {
+impl TpmMarshal for TpmtEccScheme {
+    ghost lists = { λ _. [] };
+
+    ghost one_list = { λ _. refl };
+
+    ghost steps = { 4 };
+
+    ghost few = { refl };
+
+    fn walk(self, w: Walk, src: &[u8], out: &mut [u8]) -> Walk {
+        self.details
+            .walk_tagged(self.scheme, w.code(self.scheme, out), src, out)
+    }
+}
+
+impl Listless for TpmtEccScheme {}
+
+impl TpmUnmarshal for TpmtRsaDecrypt {
+    ghost layout = { tpmt_asym_scheme };
+
+    ghost parts = { tpmt_rsa_decrypt_parts };
+
     // Kind 8, TPMT_RSA_DECRYPT, read.
-    pub fn unmarshal(s: &[u8], at: usize) -> TpmtRsaDecryptRead
-        ensures { tpmt_rsa_decrypt_answer result ≡ read tpmt_asym_scheme s.now at }
-    {
-        let mut end = at;
-        let scheme = match TpmAlgId::unmarshal(s, end) {
-            TpmAlgIdRead::Found(v, e) => {
-                end = e;
-                v
-            }
-            TpmAlgIdRead::No(f) => return TpmtRsaDecryptRead::No(f),
-        };
-        let details = match TpmuAsymScheme::unmarshal_tagged(scheme, s, end) {
-            TpmuAsymSchemeRead::Found(v, e) => {
-                end = e;
-                v
-            }
-            TpmuAsymSchemeRead::No(f) => return TpmtRsaDecryptRead::No(f),
-        };
-        TpmtRsaDecryptRead::Found(Self { scheme, details }, end)
-    }
-
-    pub fn whole(s: &[u8], at: usize) -> TpmtRsaDecryptRead
-        ensures { tpmt_rsa_decrypt_answer result ≡ read_whole tpmt_asym_scheme s.now at }
-    {
-        match Self::unmarshal(s, at) {
-            TpmtRsaDecryptRead::Found(x, e) => match nothing_behind(s, e) {
-                Measure::Size(_) => TpmtRsaDecryptRead::Found(x, e),
-                Measure::No(f) => TpmtRsaDecryptRead::No(f),
-            },
-            TpmtRsaDecryptRead::No(f) => TpmtRsaDecryptRead::No(f),
-        }
-    }
-
-    pub fn walk(self, w: Walk, src: &[u8], out: &mut [u8]) -> Walk
-        ensures { Walks 4 tpmt_asym_scheme (tpmt_rsa_decrypt_parts self) [] src.now (here w out.old) (here result out.new) }
-    {
-        let details = self.details;
-        details.walk_tagged(self.scheme, w.algorithm(self.scheme, out), src, out)
-    }
-
-    pub fn measure(self, src: &[u8]) -> Measure
-        ensures { Measures tpmt_asym_scheme (tpmt_rsa_decrypt_parts self) src.now result }
-    {
-        self.walk(judging(0), src, &mut []).answer()
-    }
-
-    pub fn marshal(self, src: &[u8], out: &mut [u8]) -> Measure
-        ensures { Writes tpmt_asym_scheme (tpmt_rsa_decrypt_parts self) src.now out.old result out.new }
-    {
-        let w = ready(self.measure(src), out.len());
-        self.walk(w, src, out).answer()
-    }
-
-    pub fn field<'a>(self, s: &'a [u8], index: usize) -> &'a [u8]
-        ensures result_value { result.now ≡ part_of (field_of (tpmt_rsa_decrypt_parts self) index s.now) }
-        ensures place { StandsAt s.entry result (start_at (tpmt_rsa_decrypt_parts self) index s.now) }
-    {
-        self.walk(seeking(index), s, &mut []).part(s)
-    }
-
-    pub fn field_size(self, s: &[u8], index: usize) -> Measure
-        ensures { measure_answer result ≡ size_of (field_of (tpmt_rsa_decrypt_parts self) index s.now) }
-    {
-        self.walk(seeking(index), s, &mut []).size(s, index)
-    }
-
-    // It has no list.
-    pub fn item<'a>(self, s: &'a [u8], index: usize) -> &'a [u8]
-        ensures result_value { result.now ≡ [] }
-        ensures place { StandsAt s.entry result 0 }
-    {
-        &s[0..0]
-    }
-
-    pub fn item_size(self, s: &[u8], index: usize) -> Measure
-        ensures { measure_answer result ≡ refused (no_field index) }
-    {
-        Measure::No(Refusal::no_field(index))
+    fn unmarshal(s: &[u8], at: usize) -> Read<Self> {
+        let (scheme, end) = TpmAlgId::unmarshal(s, at)?;
+        let (details, end) = TpmuAsymScheme::unmarshal_tagged(scheme, s, end)?;
+        Ok((Self { scheme, details }, end))
     }
 }
+
+impl TpmMarshal for TpmtRsaDecrypt {
+    ghost lists = { λ _. [] };
+
+    ghost one_list = { λ _. refl };
+
+    ghost steps = { 4 };
+
+    ghost few = { refl };
+
+    fn walk(self, w: Walk, src: &[u8], out: &mut [u8]) -> Walk {
+        self.details
+            .walk_tagged(self.scheme, w.code(self.scheme, out), src, out)
+    }
+}
+
+impl Listless for TpmtRsaDecrypt {}

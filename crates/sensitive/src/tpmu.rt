@@ -1,20 +1,19 @@
 // What a sensitive area keeps, by its type. The union has no Null. It has the calls that a union has (ciphers, tpmu.rt).
 ghost use Rattle.std.specs.Prelude.{◌≡◌, []};
+ghost use Rattle.wire.specs.Answers.{answer};
 ghost use Rattle.wire.specs.Reading.{read};
 ghost use Rattle.wire.specs.Unions.{is_arm, held};
 ghost use Rattle.format.specs.Kinds.{tpmu_sensitive_composite_arm, tpmu_sensitive_composite};
 ghost use Rattle.steps.specs.Walks.{here, Walks};
 ghost use Rattle.sensitive.specs.Parts.{tpmu_sensitive_composite_parts};
-ghost use Rattle.sensitive.specs.Answers.{tpmu_sensitive_composite_answer};
 
-use codes::{TpmAlgId, registry};
+use codes::TpmAlgId;
 use faults::Refusal;
 use format::arms::sensitive_composite_arm;
 use format::limits;
 use steps::walk::Walk;
-use wire::read::{SpanRead, buffer};
+use wire::read::{Read, buffer};
 use wire::span::Span;
-use wire::widen::wide;
 use wire::width::Width;
 
 #[derive(Clone, Copy)]
@@ -25,54 +24,46 @@ pub enum TpmuSensitiveComposite {
     Sym(Span),
 }
 
-#[derive(Clone, Copy)]
-pub enum TpmuSensitiveCompositeRead {
-    Found(TpmuSensitiveComposite, usize),
-    No(Refusal),
-}
-
 impl TpmuSensitiveComposite {
-    pub fn unmarshal_tagged(tag: TpmAlgId, s: &[u8], at: usize) -> TpmuSensitiveCompositeRead
-        ensures { tpmu_sensitive_composite_answer result ≡ read (tpmu_sensitive_composite tag.0) s.now at }
+    pub fn unmarshal_tagged(tag: TpmAlgId, s: &[u8], at: usize) -> Read<TpmuSensitiveComposite>
+        ensures { answer tpmu_sensitive_composite_parts result ≡ read (tpmu_sensitive_composite tag.0) s.now at }
     {
-        let v = tag.0;
-        match v {
-            registry::RSA => match buffer(s, at, Width::Two, limits::MAX_PRIVATE_KEY_RSA) {
-                SpanRead::Found(x, e) => TpmuSensitiveCompositeRead::Found(Self::Rsa(x), e),
-                SpanRead::No(f) => TpmuSensitiveCompositeRead::No(f),
-            },
-            registry::ECC => match buffer(s, at, Width::Two, limits::MAX_ECC_KEY_BYTES) {
-                SpanRead::Found(x, e) => TpmuSensitiveCompositeRead::Found(Self::Ecc(x), e),
-                SpanRead::No(f) => TpmuSensitiveCompositeRead::No(f),
-            },
-            registry::KEYED_HASH => match buffer(s, at, Width::Two, limits::MAX_SENSITIVE_DATA) {
-                SpanRead::Found(x, e) => TpmuSensitiveCompositeRead::Found(Self::Bits(x), e),
-                SpanRead::No(f) => TpmuSensitiveCompositeRead::No(f),
-            },
-            registry::SYM_CIPHER => match buffer(s, at, Width::Two, limits::MAX_SYM_KEY_BYTES) {
-                SpanRead::Found(x, e) => TpmuSensitiveCompositeRead::Found(Self::Sym(x), e),
-                SpanRead::No(f) => TpmuSensitiveCompositeRead::No(f),
-            },
-            _ => TpmuSensitiveCompositeRead::No(Refusal::no_arm(at, wide(v))),
+        match tag {
+            TpmAlgId::Rsa => {
+                let (x, end) = buffer(s, at, Width::Two, limits::MAX_PRIVATE_KEY_RSA)?;
+                Ok((Self::Rsa(x), end))
+            }
+            TpmAlgId::Ecc => {
+                let (x, end) = buffer(s, at, Width::Two, limits::MAX_ECC_KEY_BYTES)?;
+                Ok((Self::Ecc(x), end))
+            }
+            TpmAlgId::KeyedHash => {
+                let (x, end) = buffer(s, at, Width::Two, limits::MAX_SENSITIVE_DATA)?;
+                Ok((Self::Bits(x), end))
+            }
+            TpmAlgId::SymCipher => {
+                let (x, end) = buffer(s, at, Width::Two, limits::MAX_SYM_KEY_BYTES)?;
+                Ok((Self::Sym(x), end))
+            }
+            _ => Err(Refusal::no_arm(at, u64::from(tag.0))),
         }
     }
 
     pub fn matches_tag(self, tag: TpmAlgId) -> bool
         ensures { result ≡ is_arm (tpmu_sensitive_composite_arm tag.0) (held (tpmu_sensitive_composite_parts self)) }
     {
-        let v = tag.0;
         match self {
-            Self::Rsa(_) => v == registry::RSA,
-            Self::Ecc(_) => v == registry::ECC,
-            Self::Bits(_) => v == registry::KEYED_HASH,
-            Self::Sym(_) => v == registry::SYM_CIPHER,
+            Self::Rsa(_) => tag.0 == TpmAlgId::Rsa.0,
+            Self::Ecc(_) => tag.0 == TpmAlgId::Ecc.0,
+            Self::Bits(_) => tag.0 == TpmAlgId::KeyedHash.0,
+            Self::Sym(_) => tag.0 == TpmAlgId::SymCipher.0,
         }
     }
 
     pub fn walk_tagged(self, tag: TpmAlgId, w: Walk, src: &[u8], out: &mut [u8]) -> Walk
         ensures { Walks 2 (tpmu_sensitive_composite tag.0) (tpmu_sensitive_composite_parts self) [] src.now (here w out.old) (here result out.new) }
     {
-        let v = w.due(tag.0, sensitive_composite_arm(tag), self.matches_tag(tag));
+        let v = w.due(tag, sensitive_composite_arm(tag), self.matches_tag(tag));
         match self {
             Self::Rsa(x) => v.buffer(limits::MAX_PRIVATE_KEY_RSA, x, src, out),
             Self::Ecc(x) => v.buffer(limits::MAX_ECC_KEY_BYTES, x, src, out),

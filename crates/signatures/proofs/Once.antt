@@ -1,17 +1,12 @@
--- The parts of each type determine it, and no two answers of this crate mean the same. Assumes nothing.
+-- The parts of each type determine it. Assumes nothing.
 use mathlib.Core.Path.{refl}
 use mathlib.Core.List.{[], ◌∷◌}
-use Rattle.wire.proofs.Once.{Injective, Once, span_once, both, fields, holds, bare, union, answers}
+use Rattle.wire.proofs.Once.{Once, span_once, both, fields, holds, bare, union}
 use Rattle.codes.specs.Codes.{hmac, null, rsassa, rsapss, ecdsa, ecdaa, sm2, ecschnorr}
 use Rattle.codes.proofs.Once.{tpm_alg_id_once}
 use Rattle.ciphers.proofs.Once.{tpmt_ha_once}
-use Rattle.signatures.specs.declared.tpms.TpmsSignatureRsaRead.{TpmsSignatureRsaRead}
-use Rattle.signatures.specs.declared.tpms.TpmsSignatureEccRead.{TpmsSignatureEccRead}
 use Rattle.signatures.specs.declared.tpmu.TpmuSignature.{TpmuSignature}
-use Rattle.signatures.specs.declared.tpmu.TpmuSignatureRead.{TpmuSignatureRead}
-use Rattle.signatures.specs.declared.tpmt.TpmtSignatureRead.{TpmtSignatureRead}
 use Rattle.signatures.specs.Parts.{tpms_signature_rsa_parts, tpms_signature_ecc_parts, tpmu_signature_parts, tpmt_signature_parts}
-use Rattle.signatures.specs.Answers.{tpms_signature_rsa_answer, tpms_signature_ecc_answer, tpmu_signature_answer, tpmt_signature_answer}
 
 -- ---- structures
 
@@ -50,17 +45,3 @@ tpmu_signature_once =
 
 pub tpmt_signature_once : Once tpmt_signature_parts
 tpmt_signature_once = fields (λ s. (s.sig_alg, s.signature)) (λ (a, b). record { sig_alg = a; signature = b }) (λ s. refl) (both tpm_alg_id_once tpmu_signature_once)
-
--- ---- answers
-
-pub tpms_signature_rsa_answer_once : Injective tpms_signature_rsa_answer
-tpms_signature_rsa_answer_once = answers tpms_signature_rsa_once TpmsSignatureRsaRead.Found TpmsSignatureRsaRead.No tpms_signature_rsa_answer (λ back. elim [ TpmsSignatureRsaRead.Found x e ↦ back x e | TpmsSignatureRsaRead.No f ↦ refl ])
-
-pub tpms_signature_ecc_answer_once : Injective tpms_signature_ecc_answer
-tpms_signature_ecc_answer_once = answers tpms_signature_ecc_once TpmsSignatureEccRead.Found TpmsSignatureEccRead.No tpms_signature_ecc_answer (λ back. elim [ TpmsSignatureEccRead.Found x e ↦ back x e | TpmsSignatureEccRead.No f ↦ refl ])
-
-pub tpmu_signature_answer_once : Injective tpmu_signature_answer
-tpmu_signature_answer_once = answers tpmu_signature_once TpmuSignatureRead.Found TpmuSignatureRead.No tpmu_signature_answer (λ back. elim [ TpmuSignatureRead.Found x e ↦ back x e | TpmuSignatureRead.No f ↦ refl ])
-
-pub tpmt_signature_answer_once : Injective tpmt_signature_answer
-tpmt_signature_answer_once = answers tpmt_signature_once TpmtSignatureRead.Found TpmtSignatureRead.No tpmt_signature_answer (λ back. elim [ TpmtSignatureRead.Found x e ↦ back x e | TpmtSignatureRead.No f ↦ refl ])

@@ -1,19 +1,21 @@
 // The union of signatures, by the signature's algorithm. It has the calls that a union has (ciphers, tpmu.rt).
 ghost use Rattle.std.specs.Prelude.{◌≡◌, []};
+ghost use Rattle.wire.specs.Answers.{answer};
 ghost use Rattle.wire.specs.Reading.{read};
 ghost use Rattle.wire.specs.Unions.{is_arm, held};
 ghost use Rattle.format.specs.Kinds.{tpmu_signature_arm, tpmu_signature};
 ghost use Rattle.steps.specs.Walks.{here, Walks};
 ghost use Rattle.signatures.specs.Parts.{tpmu_signature_parts};
-ghost use Rattle.signatures.specs.Answers.{tpmu_signature_answer};
 
-use crate::tpms::{TpmsSignatureEcc, TpmsSignatureEccRead, TpmsSignatureRsa, TpmsSignatureRsaRead};
-use ciphers::tpmt::{TpmtHa, TpmtHaRead};
-use codes::{TpmAlgId, registry};
+use crate::tpms::{TpmsSignatureEcc, TpmsSignatureRsa};
+use ciphers::tpmt::TpmtHa;
+use codes::TpmAlgId;
 use faults::Refusal;
 use format::arms::signature_arm;
+use steps::marshal::TpmMarshal;
 use steps::walk::Walk;
-use wire::widen::wide;
+use wire::read::Read;
+use wire::unmarshal::TpmUnmarshal;
 
 #[derive(Clone, Copy)]
 pub enum TpmuSignature {
@@ -27,74 +29,63 @@ pub enum TpmuSignature {
     Null,
 }
 
-#[derive(Clone, Copy)]
-pub enum TpmuSignatureRead {
-    Found(TpmuSignature, usize),
-    No(Refusal),
-}
-
 impl TpmuSignature {
-    pub fn unmarshal_tagged(tag: TpmAlgId, s: &[u8], at: usize) -> TpmuSignatureRead
-        ensures { tpmu_signature_answer result ≡ read (tpmu_signature tag.0) s.now at }
+    pub fn unmarshal_tagged(tag: TpmAlgId, s: &[u8], at: usize) -> Read<TpmuSignature>
+        ensures { answer tpmu_signature_parts result ≡ read (tpmu_signature tag.0) s.now at }
     {
-        let v = tag.0;
-        match v {
-            registry::RSASSA => match TpmsSignatureRsa::unmarshal(s, at) {
-                TpmsSignatureRsaRead::Found(x, e) => TpmuSignatureRead::Found(Self::Rsassa(x), e),
-                TpmsSignatureRsaRead::No(f) => TpmuSignatureRead::No(f),
-            },
-            registry::RSAPSS => match TpmsSignatureRsa::unmarshal(s, at) {
-                TpmsSignatureRsaRead::Found(x, e) => TpmuSignatureRead::Found(Self::Rsapss(x), e),
-                TpmsSignatureRsaRead::No(f) => TpmuSignatureRead::No(f),
-            },
-            registry::ECDSA => match TpmsSignatureEcc::unmarshal(s, at) {
-                TpmsSignatureEccRead::Found(x, e) => TpmuSignatureRead::Found(Self::Ecdsa(x), e),
-                TpmsSignatureEccRead::No(f) => TpmuSignatureRead::No(f),
-            },
-            registry::ECDAA => match TpmsSignatureEcc::unmarshal(s, at) {
-                TpmsSignatureEccRead::Found(x, e) => TpmuSignatureRead::Found(Self::Ecdaa(x), e),
-                TpmsSignatureEccRead::No(f) => TpmuSignatureRead::No(f),
-            },
-            registry::SM2 => match TpmsSignatureEcc::unmarshal(s, at) {
-                TpmsSignatureEccRead::Found(x, e) => TpmuSignatureRead::Found(Self::Sm2(x), e),
-                TpmsSignatureEccRead::No(f) => TpmuSignatureRead::No(f),
-            },
-            registry::ECSCHNORR => match TpmsSignatureEcc::unmarshal(s, at) {
-                TpmsSignatureEccRead::Found(x, e) => TpmuSignatureRead::Found(
-                    Self::Ecschnorr(x),
-                    e,
-                ),
-                TpmsSignatureEccRead::No(f) => TpmuSignatureRead::No(f),
-            },
-            registry::HMAC => match TpmtHa::unmarshal(s, at) {
-                TpmtHaRead::Found(x, e) => TpmuSignatureRead::Found(Self::Hmac(x), e),
-                TpmtHaRead::No(f) => TpmuSignatureRead::No(f),
-            },
-            registry::NULL => TpmuSignatureRead::Found(Self::Null, at),
-            _ => TpmuSignatureRead::No(Refusal::no_arm(at, wide(v))),
+        match tag {
+            TpmAlgId::Rsassa => {
+                let (x, end) = TpmsSignatureRsa::unmarshal(s, at)?;
+                Ok((Self::Rsassa(x), end))
+            }
+            TpmAlgId::Rsapss => {
+                let (x, end) = TpmsSignatureRsa::unmarshal(s, at)?;
+                Ok((Self::Rsapss(x), end))
+            }
+            TpmAlgId::Ecdsa => {
+                let (x, end) = TpmsSignatureEcc::unmarshal(s, at)?;
+                Ok((Self::Ecdsa(x), end))
+            }
+            TpmAlgId::Ecdaa => {
+                let (x, end) = TpmsSignatureEcc::unmarshal(s, at)?;
+                Ok((Self::Ecdaa(x), end))
+            }
+            TpmAlgId::Sm2 => {
+                let (x, end) = TpmsSignatureEcc::unmarshal(s, at)?;
+                Ok((Self::Sm2(x), end))
+            }
+            TpmAlgId::Ecschnorr => {
+                let (x, end) = TpmsSignatureEcc::unmarshal(s, at)?;
+                Ok((Self::Ecschnorr(x), end))
+            }
+            TpmAlgId::Hmac => {
+                let (x, end) = TpmtHa::unmarshal(s, at)?;
+                Ok((Self::Hmac(x), end))
+            }
+            TpmAlgId::Null => Ok((Self::Null, at)),
+            _ => Err(Refusal::no_arm(at, u64::from(tag.0))),
         }
     }
 
     pub fn matches_tag(self, tag: TpmAlgId) -> bool
         ensures { result ≡ is_arm (tpmu_signature_arm tag.0) (held (tpmu_signature_parts self)) }
     {
-        let v = tag.0;
         match self {
-            Self::Rsassa(_) => v == registry::RSASSA,
-            Self::Rsapss(_) => v == registry::RSAPSS,
-            Self::Ecdsa(_) => v == registry::ECDSA,
-            Self::Ecdaa(_) => v == registry::ECDAA,
-            Self::Sm2(_) => v == registry::SM2,
-            Self::Ecschnorr(_) => v == registry::ECSCHNORR,
-            Self::Hmac(_) => v == registry::HMAC,
-            Self::Null => v == registry::NULL,
+            Self::Rsassa(_) => tag.0 == TpmAlgId::Rsassa.0,
+            Self::Rsapss(_) => tag.0 == TpmAlgId::Rsapss.0,
+            Self::Ecdsa(_) => tag.0 == TpmAlgId::Ecdsa.0,
+            Self::Ecdaa(_) => tag.0 == TpmAlgId::Ecdaa.0,
+            Self::Sm2(_) => tag.0 == TpmAlgId::Sm2.0,
+            Self::Ecschnorr(_) => tag.0 == TpmAlgId::Ecschnorr.0,
+            Self::Hmac(_) => tag.0 == TpmAlgId::Hmac.0,
+            Self::Null => tag.0 == TpmAlgId::Null.0,
         }
     }
 
     pub fn walk_tagged(self, tag: TpmAlgId, w: Walk, src: &[u8], out: &mut [u8]) -> Walk
         ensures { Walks 4 (tpmu_signature tag.0) (tpmu_signature_parts self) [] src.now (here w out.old) (here result out.new) }
     {
-        let v = w.due(tag.0, signature_arm(tag), self.matches_tag(tag));
+        let v = w.due(tag, signature_arm(tag), self.matches_tag(tag));
         match self {
             Self::Rsassa(x) => x.walk(v, src, out),
             Self::Rsapss(x) => x.walk(v, src, out),

@@ -8,8 +8,7 @@ use borrow.Author.Tests.{le-leb, lt-leb, lt-ltb, eq-eqb, ne_eqb}
 use Rattle.faults.specs.declared.Refusal.{Refusal}
 use Rattle.faults.specs.Faults.{mismatch, too_long}
 use Rattle.wire.specs.declared.span.Span.{Span}
-use Rattle.wire.specs.declared.measure.Measure.{Measure}
-use Rattle.wire.specs.Answers.{start_of, len_of, measure_answer}
+use Rattle.wire.specs.Answers.{start_of, len_of}
 use Rattle.wire.specs.Bytes.{digits}
 use Rattle.wire.specs.Records.{found, refused}
 use Rattle.wire.specs.Writing.{cut, spelt}
@@ -17,7 +16,6 @@ use Rattle.wire.specs.Fields.{part_of, size_of}
 use Rattle.wire.proofs.Digits.{length_digits}
 use Rattle.wire.proofs.Steps.{found_same}
 use Rattle.wire.proofs.Cuts.{sized_part, unsized}
-use Rattle.wire.proofs.Rest.{told}
 use Rattle.wire.proofs.Written.{cut_found}
 use Rattle.steps.specs.Steps.{Plain, Buffer, spell_step}
 use Rattle.steps.specs.Walks.{after}
@@ -62,6 +60,6 @@ module _ (s : Span) (src : List ℕ) (at : ℕ) where
       let same : n ≡ len_of s = (sized_length src (start_of s) (len_of s) at p).0 in
       rw (sized_part src (start_of s) (len_of s) at p, lt-leb (len_of s) m (omega arith))
 
-  pub buffer_out : (m : ℕ) {x : Measure} {f : Refusal} → x ≡ Measure.No f → measure_answer x ≡ size_of (cut src (start_of s) (len_of s) at) → refused f ≡ after at (spell_step (Buffer m s) src at)
+  pub buffer_out : (m : ℕ) {f : Refusal} → refused f ≡ size_of (cut src (start_of s) (len_of s) at) → refused f ≡ after at (spell_step (Buffer m s) src at)
   unfolding spell_step
-  buffer_out m e p = rw (unsized src (start_of s) (len_of s) at (told measure_answer e p))
+  buffer_out m p = rw (unsized src (start_of s) (len_of s) at p)

@@ -7,11 +7,10 @@ use mathlib.Core.List.{List, [], ◌∷◌}
 use lib.ListN.{length}
 use lib.Dec.{leb, eqb}
 use borrow.Author.Tests.{eq-eqb, ne_eqb, le-leb, lt-leb, leb-true}
+use Rattle.std.specs.Prelude.{None, Option, Some, Err, Ok, Result}
 use Rattle.faults.specs.declared.Fault.{Fault}
 use Rattle.faults.specs.declared.Refusal.{Refusal}
 use Rattle.faults.specs.Faults.{paper, refusal, no_such_arm, mismatch, no_room}
-use Rattle.wire.specs.declared.choice.Choice.{Choice}
-use Rattle.wire.specs.declared.measure.Measure.{Measure}
 use Rattle.wire.specs.declared.span.Span.{Span}
 use Rattle.wire.specs.Answers.{start_of, len_of, measure_answer}
 use Rattle.wire.specs.Bytes.{digits}
@@ -56,16 +55,16 @@ numbered Fault.Oversize = refl
 
 -- ---- writing
 
-module _ (m : Measure) (k : ℕ) where
-  pub ready_fits : (n : ℕ) (r : Walk) → m ≡ Measure.Size n → n ≤ k → r ≡ putting 0 → r ≡ ready_walk (measure_answer m) k
+module _ (m : Result ℕ Refusal) (k : ℕ) where
+  pub ready_fits : (n : ℕ) (r : Walk) → m ≡ Ok n → n ≤ k → r ≡ putting 0 → r ≡ ready_walk (measure_answer m) k
   unfolding ready_walk
   ready_fits n r e h p = rw (e, le-leb n k h) p
 
-  pub ready_full : (n : ℕ) (f : Refusal) (r : Walk) → m ≡ Measure.Size n → k < n → f ≡ no_room 0 n → r ≡ refusing f → r ≡ ready_walk (measure_answer m) k
+  pub ready_full : (n : ℕ) (f : Refusal) (r : Walk) → m ≡ Ok n → k < n → f ≡ no_room 0 n → r ≡ refusing f → r ≡ ready_walk (measure_answer m) k
   unfolding ready_walk
   ready_full n f r e h why p = rw (e, lt-leb n k h) (p ∙ ap refusing why)
 
-  pub ready_none : (f : Refusal) (r : Walk) → m ≡ Measure.No f → r ≡ refusing f → r ≡ ready_walk (measure_answer m) k
+  pub ready_none : (f : Refusal) (r : Walk) → m ≡ Err f → r ≡ refusing f → r ≡ ready_walk (measure_answer m) k
   unfolding ready_walk
   ready_none f r e p = rw e p
 
@@ -147,14 +146,14 @@ put_most (found bs) at old p =
     omega (arith, leb-true (length bs) (length old - at) t, found_same e)
 put_most (refused f) at old p = absurd (found_refused (sym p))
 
-module _ {m n : Measure} (a : Ans (List ℕ)) (at : ℕ) (old last : List ℕ) (e : m ≡ n) (did : (measure_answer m ≡ written at a old) × (last ≡ filled at a old)) where
-  pub put_room : {k : ℕ} → n ≡ Measure.Size k → k ≤ length old - at
+module _ {m n : Result ℕ Refusal} (a : Ans (List ℕ)) (at : ℕ) (old last : List ℕ) (e : m ≡ n) (did : (measure_answer m ≡ written at a old) × (last ≡ filled at a old)) where
+  pub put_room : {k : ℕ} → n ≡ Ok k → k ≤ length old - at
   put_room f = put_most a at old (ap measure_answer (sym (e ∙ f)) ∙ did.0)
 
   pub put_by : (r : ℕ) → r ≡ at + count_of (measure_answer n) → Moves a at old r last
   put_by r p = record { behind = p ∙ ap (λ x. at + count_of x) (ap measure_answer (sym e) ∙ did.0); holds = did.1 }
 
-pub put_none : (m : Measure) (f : Refusal) (a : Ans (List ℕ)) (at : ℕ) (old last : List ℕ) → m ≡ Measure.No f → (measure_answer m ≡ written at a old) × (last ≡ filled at a old) → Moves a at old at last
+pub put_none : (m : Result ℕ Refusal) (f : Refusal) (a : Ans (List ℕ)) (at : ℕ) (old last : List ℕ) → m ≡ Err f → (measure_answer m ≡ written at a old) × (last ≡ filled at a old) → Moves a at old at last
 put_none m f a at old last e did = let none : at ≡ at + 0 = omega arith in put_by a at old last e did at none
 
 pub moved_one : (a : Ans (List ℕ)) (at : ℕ) (old : List ℕ) (z : Walk) (r : ℕ) (last : List ℕ) → z ≡ putting r → Moves a at old r last → here z last ≡ put_one a at old
@@ -175,7 +174,7 @@ module _ (w : Walk) (s : Step) (src : List ℕ) where
 
 -- a field that has bytes
 module _ (w : Walk) (s : Step) (t : Span) (src out : List ℕ) where
-  pub step_judged : (judge : (u : Walk) → judge_step s src u ≡ judge_sized s src u) (m : Measure) (r : Walk) → w.mode ≡ 0 → w.at ≤ 0x1000000 → (measure_answer m ≡ after w.at (spell_step s src w.at)) × Near m w.at → r ≡ judged (measure_answer m)
+  pub step_judged : (judge : (u : Walk) → judge_step s src u ≡ judge_sized s src u) (m : Result ℕ Refusal) (r : Walk) → w.mode ≡ 0 → w.at ≤ 0x1000000 → (measure_answer m ≡ after w.at (spell_step s src w.at)) × Near m w.at → r ≡ judged (measure_answer m)
       → Goes (s ∷ []) src (here w out) (here r out)
   step_judged judge m r e h told p = step_by_lem w s src 0 out e (ap (λ x. here x out) (rw (judge w, le-leb w.at 0x1000000 h) (p ∙ ap judged told.0)))
 
@@ -218,18 +217,18 @@ put_buffer w m t n src old b mid z r last e size p q is =
 pub refused_so : {f g : Refusal} {r : Walk} → f ≡ g → r ≡ refusing f → r ≡ refusing g
 refused_so why is = is ∙ ap refusing why
 
-module _ (v : ℕ) (c : Choice) (b : Bool) (w : Walk) where
+module _ (v : ℕ) (c : Option ℕ) (b : Bool) (w : Walk) where
   due_by : (r : Walk) → w.mode ≡ 0 → r ≡ judge_due v c b w → Dues v c b w r
   unfolding judge_step
   due_by r e p = record { goes = λ src out. step_by_lem w (Due v c b) src 0 out e (ap (λ x. here x out) p) }
 
-  pub due_held : {t : ℕ} → w.mode ≡ 0 → c ≡ Choice.The t → b ≡ true → Dues v c b w w
+  pub due_held : {t : ℕ} → w.mode ≡ 0 → c ≡ Some t → b ≡ true → Dues v c b w w
   due_held e p q = due_by w e (rw (p, q))
 
-  pub due_other : {t : ℕ} {f : Refusal} {r : Walk} → w.mode ≡ 0 → c ≡ Choice.The t → b ≡ false → f ≡ mismatch w.at v → r ≡ refusing f → Dues v c b w r
+  pub due_other : {t : ℕ} {f : Refusal} {r : Walk} → w.mode ≡ 0 → c ≡ Some t → b ≡ false → f ≡ mismatch w.at v → r ≡ refusing f → Dues v c b w r
   due_other {r = r} e p q why is = due_by r e (rw (p, q) (is ∙ ap refusing why))
 
-  pub due_missing : {r : Walk} → w.mode ≡ 0 → c ≡ Choice.Nothing → r ≡ refusing (no_such_arm w.at v) → Dues v c b w r
+  pub due_missing : {r : Walk} → w.mode ≡ 0 → c ≡ None → r ≡ refusing (no_such_arm w.at v) → Dues v c b w r
   due_missing {r} e p is = due_by r e (rw p is)
 
   pub due_passed : (w.mode ≡ 0 → ⊥) → Dues v c b w w
@@ -246,20 +245,20 @@ module _ (v : ℕ) (c : Choice) (b : Bool) (w : Walk) where
 
 -- ---- judging
 
-pub judged_as : (m n : Measure) (r : Walk) → m ≡ n → r ≡ judged (measure_answer n) → r ≡ judged (measure_answer m)
+pub judged_as : (m n : Result ℕ Refusal) (r : Walk) → m ≡ n → r ≡ judged (measure_answer n) → r ≡ judged (measure_answer m)
 judged_as m n r e p = p ∙ ap (λ x. judged (measure_answer x)) (sym e)
 
 -- the arm that is due is a digest's, or one of no size
-pub due_size_of : (c : Choice) (t : ℕ) → c ≡ Choice.The t → t - 256 ≡ due_size c
+pub due_size_of : (c : Option ℕ) (t : ℕ) → c ≡ Some t → t - 256 ≡ due_size c
 due_size_of c t e = ap due_size (sym e)
 
-pub due_none : (c : Choice) (t : ℕ) → c ≡ Choice.The t → t < 256 → 0 ≡ due_size c
+pub due_none : (c : Option ℕ) (t : ℕ) → c ≡ Some t → t < 256 → 0 ≡ due_size c
 due_none c t e h = let none : 0 ≡ t - 256 = omega arith in none ∙ ap due_size (sym e)
 
 -- ---- digests and buffers
 
 module _ (w : Walk) (t : Span) (src out : List ℕ) where
-  pub plain_judged : (n k : ℕ) (m : Measure) (r : Walk) → w.mode ≡ 0 → k ≡ n → w.at ≤ 0x1000000 → (measure_answer m ≡ after w.at (spell_step (Plain k t) src w.at)) × Near m w.at → r ≡ judged (measure_answer m)
+  pub plain_judged : (n k : ℕ) (m : Result ℕ Refusal) (r : Walk) → w.mode ≡ 0 → k ≡ n → w.at ≤ 0x1000000 → (measure_answer m ≡ after w.at (spell_step (Plain k t) src w.at)) × Near m w.at → r ≡ judged (measure_answer m)
       → Goes (Plain n t ∷ []) src (here w out) (here r out)
   unfolding judge_step
   plain_judged n k m r e size h told p = rw (← size) (step_judged w (Plain k t) t src out (λ u. refl) m r e h told p)
@@ -279,7 +278,7 @@ module _ (w : Walk) (t : Span) (src out : List ℕ) where
   unfolding seek_step
   plain_sought n r b a d p = step_sought w (Plain n t) t src out (λ u. refl) r a b d (λ e. refl) p
 
-  pub buffer_judged : (n : ℕ) (m : Measure) (r : Walk) → w.mode ≡ 0 → w.at ≤ 0x1000000 → (measure_answer m ≡ after w.at (spell_step (Buffer n t) src w.at)) × Near m w.at → r ≡ judged (measure_answer m)
+  pub buffer_judged : (n : ℕ) (m : Result ℕ Refusal) (r : Walk) → w.mode ≡ 0 → w.at ≤ 0x1000000 → (measure_answer m ≡ after w.at (spell_step (Buffer n t) src w.at)) × Near m w.at → r ≡ judged (measure_answer m)
       → Goes (Buffer n t ∷ []) src (here w out) (here r out)
   unfolding judge_step
   buffer_judged n m r e h told p = step_judged w (Buffer n t) t src out (λ u. refl) m r e h told p

@@ -6,8 +6,8 @@ use mathlib.Core.List.{List, [], ◌∷◌, ◌++◌}
 use lib.ListN.{length, take, drop}
 use lib.Dec.{eqb}
 use borrow.Author.Tests.{le-leb, lt-leb}
+use Rattle.std.specs.Prelude.{Err, Ok, Result}
 use Rattle.faults.specs.declared.Refusal.{Refusal}
-use Rattle.wire.specs.declared.measure.Measure.{Measure}
 use Rattle.wire.specs.declared.span.Span.{Span}
 use Rattle.wire.specs.Answers.{start_of, len_of, measure_answer}
 use Rattle.wire.specs.Lines.{Line, line, a_number, the_bytes, span_line}
@@ -59,19 +59,19 @@ module _ (s : Step) (far : ℕ) (src : List ℕ) (w : Walk) (old : List ℕ) (on
   pub lines_far : far < w.at → here w old ≡ line_step s src w old
   lines_far h = rw (once, lt-leb w.at far h)
 
-  module _ (m n : Measure) (e : m ≡ n) (told : (measure_answer m ≡ after w.at (spell_step s src w.at)) × Near m w.at) (h : w.at ≤ far) where
+  module _ (m n : Result ℕ Refusal) (e : m ≡ n) (told : (measure_answer m ≡ after w.at (spell_step s src w.at)) × Near m w.at) (h : w.at ≤ far) where
     lines_by : {g : Here} → g ≡ lines_if (measure_answer n) (step_lines s src w.at) (here w old) → g ≡ line_step s src w old
     lines_by p = rw (once, le-leb w.at far h, ← told.0, e) p
 
-    pub lines_good : (z r : Walk) (last : List ℕ) (stop : ℕ) → n ≡ Measure.Size stop → here r last ≡ put_lines (step_lines s src w.at) (here w old) → z ≡ to_place stop r → here z last ≡ line_step s src w old
+    pub lines_good : (z r : Walk) (last : List ℕ) (stop : ℕ) → n ≡ Ok stop → here r last ≡ put_lines (step_lines s src w.at) (here w old) → z ≡ to_place stop r → here z last ≡ line_step s src w old
     lines_good z r last stop is p q = lines_by (ap (λ x. here x last) q ∙ ap (λ g. on_to stop g) p ∙ ap (λ x. lines_if (measure_answer x) (step_lines s src w.at) (here w old)) (sym is))
 
-    pub lines_bad : (z : Walk) (f : Refusal) → n ≡ Measure.No f → z ≡ refusing f → here z old ≡ line_step s src w old
+    pub lines_bad : (z : Walk) (f : Refusal) → n ≡ Err f → z ≡ refusing f → here z old ≡ line_step s src w old
     lines_bad z f is q = lines_by (ap (λ x. here x old) q ∙ ap (λ x. lines_if (measure_answer x) (step_lines s src w.at) (here w old)) (sym is))
 
 -- ---- a buffer and a digest that are legal have their bytes in the source
 
-module _ (src : List ℕ) (at : ℕ) {m : Measure} {stop : ℕ} (e : m ≡ Measure.Size stop) where
+module _ (src : List ℕ) (at : ℕ) {m : Result ℕ Refusal} {stop : ℕ} (e : m ≡ Ok stop) where
   spelled : (s : Step) → measure_answer m ≡ after at (spell_step s src at) → (xs : List ℕ) × (spell_step s src at ≡ found xs)
   spelled s told = let (xs, p, q) = next_found (spell_step s src at) _ (sym told ∙ ap measure_answer e) in (xs, p)
 
@@ -121,23 +121,23 @@ module _ (n : ℕ) (t : Span) (src : List ℕ) (w : Walk) (old : List ℕ) where
   pub buffer_lines_far : 0x1000000 < w.at → here w old ≡ line_step (Buffer n t) src w old
   buffer_lines_far h = lines_far (Buffer n t) 0x1000000 src w old buffer_once h
 
-  module _ (m : Measure) (z : Walk) where
-    pub plain_lined : (stop : ℕ) (v : Walk) (last : List ℕ) → m ≡ Measure.Size stop → (measure_answer m ≡ after w.at (spell_step (Plain n t) src w.at)) × Near m w.at → w.at ≤ 0x1000000
+  module _ (m : Result ℕ Refusal) (z : Walk) where
+    pub plain_lined : (stop : ℕ) (v : Walk) (last : List ℕ) → m ≡ Ok stop → (measure_answer m ≡ after w.at (spell_step (Plain n t) src w.at)) × Near m w.at → w.at ≤ 0x1000000
         → here v last ≡ put_line (span_line w.at (start_of t) (len_of t) src) (here w old) → z ≡ to_place stop v → here z last ≡ line_step (Plain n t) src w old
     unfolding put_lines
     plain_lined stop v last e told h p q = lines_good (Plain n t) 0x1000000 src w old plain_once m m refl told h z v last stop e p q
 
-    pub plain_not_lined : (f : Refusal) → m ≡ Measure.No f → (measure_answer m ≡ after w.at (spell_step (Plain n t) src w.at)) × Near m w.at → w.at ≤ 0x1000000 → z ≡ refusing f → here z old ≡ line_step (Plain n t) src w old
+    pub plain_not_lined : (f : Refusal) → m ≡ Err f → (measure_answer m ≡ after w.at (spell_step (Plain n t) src w.at)) × Near m w.at → w.at ≤ 0x1000000 → z ≡ refusing f → here z old ≡ line_step (Plain n t) src w old
     plain_not_lined f e told h q = lines_bad (Plain n t) 0x1000000 src w old plain_once m m refl told h z f e q
 
-    pub buffer_lined : (stop k : ℕ) (v u : Walk) (mid last : List ℕ) → m ≡ Measure.Size stop → (measure_answer m ≡ after w.at (spell_step (Buffer n t) src w.at)) × Near m w.at → w.at ≤ 0x1000000 → k ≡ len_of t
+    pub buffer_lined : (stop k : ℕ) (v u : Walk) (mid last : List ℕ) → m ≡ Ok stop → (measure_answer m ≡ after w.at (spell_step (Buffer n t) src w.at)) × Near m w.at → w.at ≤ 0x1000000 → k ≡ len_of t
         → here v mid ≡ put_line (line w.at 2 (a_number k)) (here w old) → here u last ≡ put_line (span_line (w.at + 2) (start_of t) (len_of t) src) (here v mid) → z ≡ to_place stop u → here z last ≡ line_step (Buffer n t) src w old
     unfolding put_lines
     buffer_lined stop k v u mid last e told h size p q r =
         lines_good (Buffer n t) 0x1000000 src w old buffer_once m m refl told h z u last stop e
         (q ∙ ap (λ g. put_line (span_line (w.at + 2) (start_of t) (len_of t) src) g) (p ∙ ap (λ x. put_line (line w.at 2 (a_number x)) (here w old)) size)) r
 
-    pub buffer_not_lined : (f : Refusal) → m ≡ Measure.No f → (measure_answer m ≡ after w.at (spell_step (Buffer n t) src w.at)) × Near m w.at → w.at ≤ 0x1000000 → z ≡ refusing f → here z old ≡ line_step (Buffer n t) src w old
+    pub buffer_not_lined : (f : Refusal) → m ≡ Err f → (measure_answer m ≡ after w.at (spell_step (Buffer n t) src w.at)) × Near m w.at → w.at ≤ 0x1000000 → z ≡ refusing f → here z old ≡ line_step (Buffer n t) src w old
     buffer_not_lined f e told h q = lines_bad (Buffer n t) 0x1000000 src w old buffer_once m m refl told h z f e q
 
 -- ---- a line

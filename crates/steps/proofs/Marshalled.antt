@@ -8,9 +8,9 @@ use mathlib.Core.List.{List, ◌++◌}
 use lib.ListN.{length, drop}
 use lib.Dec.{leb}
 use borrow.Author.Tests.{leb-true}
+use Rattle.std.specs.Prelude.{Result}
 use Rattle.faults.specs.declared.Refusal.{Refusal}
 use Rattle.faults.specs.Faults.{refusal, no_room}
-use Rattle.wire.specs.declared.measure.Measure.{Measure}
 use Rattle.wire.specs.Answers.{measure_answer}
 use Rattle.wire.specs.Layout.{Layout}
 use Rattle.wire.specs.Records.{Part, Ans, found, refused}
@@ -61,14 +61,14 @@ unfolding walk_answer
 judged_size (found bs) = ap found (zero-add (length bs))
 judged_size (refused f) = refusing_answer f
 
-pub measured : (k : ℕ) (l : Layout) (ps ls : List Part) (src old mid : List ℕ) (u w : Walk) (r : Measure) → u ≡ judging 0 → Walks k l ps ls src (here u old) (here w mid)
+pub measured : (k : ℕ) (l : Layout) (ps ls : List Part) (src old mid : List ℕ) (u w : Walk) (r : Result ℕ Refusal) → u ≡ judging 0 → Walks k l ps ls src (here u old) (here w mid)
     → measure_answer r ≡ walk_answer w → leb k 24 ≡ true → Measures l ps src r
 measured k l ps ls src old mid u w r begin p told few =
     let small = leb-true k 24 few in
     let judges = p.goes.same ∙ ap (λ x. run p.steps src (here x old)) begin ∙ run_judges p.steps src 0 old (omega (arith, p.short)) ∙ ap (λ a. here (judged (after 0 a)) old) (sym (p.plans.lays src 0)) in
     record { answer = told ∙ ap (λ h. walk_answer h.walk) judges ∙ judged_size (lay l ps src 0); shaped = p.plans.shaped }
 
-pub marshalled : (k : ℕ) (l : Layout) (ps ls : List Part) (src old last : List ℕ) (v z : Walk) (m r : Measure) → Measures l ps src m
+pub marshalled : (k : ℕ) (l : Layout) (ps ls : List Part) (src old last : List ℕ) (v z : Walk) (m r : Result ℕ Refusal) → Measures l ps src m
     → v ≡ ready_walk (measure_answer m) (length old) → Walks k l ps ls src (here v old) (here z last) → measure_answer r ≡ walk_answer z → Writes l ps src old r last
 marshalled k l ps ls src old last v z m r measure ready p told =
     let begun : v ≡ ready_walk (size_of (lay l ps src 0)) (length old) = ready ∙ ap (λ a. ready_walk a (length old)) measure.answer in

@@ -7,7 +7,7 @@ use mathlib.Core.List.{List, [], ◌∷◌, ◌++◌, append_assoc}
 use lib.ListN.{length, take, drop, length-append}
 use lib.Dec.{eqb}
 use borrow.Author.Tests.{eq-eqb, eqb-true}
-use Rattle.wire.specs.declared.choice.Choice.{Choice}
+use Rattle.std.specs.Prelude.{None, Option, Some}
 use Rattle.wire.specs.declared.span.Span.{Span}
 use Rattle.wire.specs.declared.width.Width.{Width}
 use Rattle.wire.specs.Answers.{width_of, start_of, len_of, span_part}
@@ -216,22 +216,22 @@ plans_buffer {l} {ps} {ls} {ss} m s h a =
 -- ---- unions
 
 -- steps that are those of the arm h, if it is the one that is chosen, and have its byte fields and lists anyway
-pub record Arm (c : Choice) (h : ℕ) (l : Layout) (ps ls : List Part) (ss : List Step) : Type 0 where
+pub record Arm (c : Option ℕ) (h : ℕ) (l : Layout) (ps ls : List Part) (ss : List Step) : Type 0 where
   pub if_chosen : is_arm c h ≡ true → Plans l ps ls ss
   pub fields : spans_of ss ≡ spans ps
   pub lists : lists_of ss ≡ ls
 
-pub plans_arm : {c : Choice} {h : ℕ} {l : Layout} {ps ls : List Part} {ss : List Step} → Plans l ps ls ss → Arm c h l ps ls ss
+pub plans_arm : {c : Option ℕ} {h : ℕ} {l : Layout} {ps ls : List Part} {ss : List Step} → Plans l ps ls ss → Arm c h l ps ls ss
 plans_arm a = record { if_chosen = λ t. a; fields = a.fields; lists = a.lists }
 
 due_lays : (b : Bool) (v h t : ℕ) (body : ℕ → Layout) {ps ls : List Part} {ss : List Step} → eqb h t ≡ b → (b ≡ true → Plans (body h) ps ls ss)
-    → (src : List ℕ) (at : ℕ) → lay (arm v t (body t)) (tag h ∷ ps) src at ≡ spell (Due v (Choice.The t) b ∷ ss) src at
+    → (src : List ℕ) (at : ℕ) → lay (arm v t (body t)) (tag h ∷ ps) src at ≡ spell (Due v (Some t) b ∷ ss) src at
 unfolding lay spell spell_step
 due_lays true v h t body {ps} {ss = ss} e a src at = rw (e, ← eqb-true h t e) ((a refl).lays src at ∙ sym (onto_none at (λ e. spell ss src e)))
 due_lays false v h t body e a src at = rw e
 
 due_shows : (b : Bool) (v h t : ℕ) (body : ℕ → Layout) {ps ls : List Part} {ss : List Step} → eqb h t ≡ b → (b ≡ true → Plans (body h) ps ls ss)
-    → (src : List ℕ) (at : ℕ) {bs : List ℕ} → lay (arm v t (body t)) (tag h ∷ ps) src at ≡ found bs → lines_of (Due v (Choice.The t) b ∷ ss) src at ≡ lines (arm v t (body t)) (tag h ∷ ps) src at
+    → (src : List ℕ) (at : ℕ) {bs : List ℕ} → lay (arm v t (body t)) (tag h ∷ ps) src at ≡ found bs → lines_of (Due v (Some t) b ∷ ss) src at ≡ lines (arm v t (body t)) (tag h ∷ ps) src at
 unfolding lay lines lines_of
 due_shows true v h t body {ps} {ss = ss} e a src at p =
     let same = eqb-true h t e in
@@ -239,11 +239,11 @@ due_shows true v h t body {ps} {ss = ss} e a src at p =
     ap (λ x. lines_of ss src x) place ∙ (a refl).shows src at (ap (λ u. lay (body u) ps src at) same ∙ (when_found (eqb h t) _ _ p).1) ∙ ap (λ u. lines (body u) ps src at) same
 due_shows false v h t body e a src at p = absurd (false≢true (sym e ∙ (when_found (eqb h t) _ _ p).0))
 
-pub plans_due : {ps ls : List Part} {ss : List Step} (v : ℕ) (c : Choice) (h : ℕ) (body : ℕ → Layout) → Arm c h (body h) ps ls ss
+pub plans_due : {ps ls : List Part} {ss : List Step} (v : ℕ) (c : Option ℕ) (h : ℕ) (body : ℕ → Layout) → Arm c h (body h) ps ls ss
     → Plans (union c body v) (tag h ∷ ps) ls (Due v c (is_arm c h) ∷ ss)
 unfolding lay spell spell_step
-plans_due v Choice.Nothing h body a = record { lays = λ src at. refl; shaped = tt; fields = a.fields; lists = a.lists; shows = λ src at p. absurd (found_refused p) }
-plans_due v (Choice.The t) h body a =
+plans_due v None h body a = record { lays = λ src at. refl; shaped = tt; fields = a.fields; lists = a.lists; shows = λ src at p. absurd (found_refused p) }
+plans_due v (Some t) h body a =
     record {
       lays = due_lays (eqb h t) v h t body refl a.if_chosen;
       shaped = λ e. rw (← e) (a.if_chosen (eq-eqb h t e)).shaped;
@@ -253,9 +253,9 @@ plans_due v (Choice.The t) h body a =
     }
 
 -- a digest is the arm by its length
-pub digest_arm : (c : Choice) (s : Span) → Arm c (digest_of (len_of s)) (plain (len_of s) stop) (span_part s ∷ []) [] (Plain (due_size c) s ∷ [])
-digest_arm Choice.Nothing s = record { if_chosen = λ t. absurd (false≢true t); fields = refl; lists = refl }
-digest_arm (Choice.The u) s =
+pub digest_arm : (c : Option ℕ) (s : Span) → Arm c (digest_of (len_of s)) (plain (len_of s) stop) (span_part s ∷ []) [] (Plain (due_size c) s ∷ [])
+digest_arm None s = record { if_chosen = λ t. absurd (false≢true t); fields = refl; lists = refl }
+digest_arm (Some u) s =
     record {
       if_chosen = λ t. let e : digest_size u ≡ len_of s = omega (arith, eqb-true (digest_of (len_of s)) u t) in rw e (plans_plain s plans_none);
       fields = refl;

@@ -7,8 +7,8 @@ use mathlib.Core.List.{List, [], ◌∷◌, ◌++◌}
 use lib.ListN.{length, take, drop, length-append}
 use lib.Dec.{leb, eqb}
 use borrow.Author.Tests.{le-leb, eqb-true}
+use Rattle.std.specs.Prelude.{None, Some}
 use Rattle.faults.specs.declared.Refusal.{Refusal}
-use Rattle.wire.specs.declared.choice.Choice.{Choice}
 use Rattle.wire.specs.declared.span.Span.{Span}
 use Rattle.wire.specs.declared.width.Width.{Width}
 use Rattle.wire.specs.Answers.{width_of, start_of, len_of}
@@ -75,9 +75,9 @@ step_most (Buffer m s) src at p =
 step_most (Items i s) src at p =
     let (xs, e, q) = next_found (cut src (start_of s) (len_of s) at) _ p in
     whole_most i xs (moved_found at (whole (most_items i) (item_layout i) xs) q)
-step_most (Due v Choice.Nothing b) src at p = absurd (found_refused p)
-step_most (Due v (Choice.The t) true) src at p = omega (arith, ap length (found_same p))
-step_most (Due v (Choice.The t) false) src at p = absurd (found_refused p)
+step_most (Due v None b) src at p = absurd (found_refused p)
+step_most (Due v (Some t) true) src at p = omega (arith, ap length (found_same p))
+step_most (Due v (Some t) false) src at p = absurd (found_refused p)
 
 -- what judging makes of one step that is not too far
 judge_near : (s : Step) (src : List ℕ) (at : ℕ) → at ≤ 0x1000000 → judge_step s src (judging at) ≡ judged (after at (spell_step s src at))
@@ -86,9 +86,9 @@ judge_near (Number w r n) src at h = rw (le-leb at 0x1000000 h)
 judge_near (Plain n s) src at h = rw (le-leb at 0x1000000 h)
 judge_near (Buffer m s) src at h = rw (le-leb at 0x1000000 h)
 judge_near (Items i s) src at h = rw (le-leb at 0x1000000 h)
-judge_near (Due v Choice.Nothing b) src at h = refl
-judge_near (Due v (Choice.The t) true) src at h = let none : at ≡ at + 0 = omega arith in ap judging none
-judge_near (Due v (Choice.The t) false) src at h = refl
+judge_near (Due v None b) src at h = refl
+judge_near (Due v (Some t) true) src at h = let none : at ≡ at + 0 = omega arith in ap judging none
+judge_near (Due v (Some t) false) src at h = refl
 
 pub run_judges : (ss : List Step) (src : List ℕ) (at : ℕ) (out : List ℕ) → at + reach ss ≤ 0x1000000 → run ss src (here (judging at) out) ≡ here (judged (after at (spell ss src at))) out
 unfolding run step_walk spell

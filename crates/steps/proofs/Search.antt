@@ -7,7 +7,7 @@ use mathlib.Core.Bool.{Bool, true}
 use mathlib.Core.List.{List, [], ◌∷◌, ◌++◌, append-nil}
 use lib.Dec.{leb, ltb}
 use borrow.Author.Tests.{le-leb, leb-true}
-use Rattle.wire.specs.declared.choice.Choice.{Choice}
+use Rattle.std.specs.Prelude.{Option}
 use Rattle.wire.specs.declared.span.Span.{Span}
 use Rattle.wire.specs.declared.width.Width.{Width}
 use Rattle.wire.specs.Answers.{width_of, span_part}
@@ -65,13 +65,13 @@ pub ruleset walking = (by_number, by_buffer, by_list, by_stop, by_more, by_then,
 abbrev pub behind_arm : List Part → List Part
 behind_arm ps = on_arm [] ps (λ t qs. qs)
 
-pub by_arm : {X : Type 0} (parts : X → List Part) (arms : ℕ → Choice) (body : ℕ → Layout) (v : ℕ) (x y : X) (c : Choice) (b : Bool) (src out : List ℕ) (a m : Walk) (k : ℕ) (ls : List Part) (z : Here)
+pub by_arm : {X : Type 0} (parts : X → List Part) (arms : ℕ → Option ℕ) (body : ℕ → Layout) (v : ℕ) (x y : X) (c : Option ℕ) (b : Bool) (src out : List ℕ) (a m : Walk) (k : ℕ) (ls : List Part) (z : Here)
     → x ≡ y → c ≡ arms v → b ≡ is_arm (arms v) (held (parts x)) → Dues v c b a m → parts y ≡ tag (held (parts y)) ∷ behind_arm (parts y) → leb 1 k ≡ true → Walks (k - 1) (body (held (parts y))) (behind_arm (parts y)) ls src (here m out) z
     → Walks k (union (arms v) body v) (parts x) ls src (here a out) z
 by_arm parts arms body v x y c b src out a m k ls z e same told goes is fits p = holds src v same told goes body (ap parts e ∙ is) refl p (one_more k fits)
 
 -- and where the union's lists are by the arm that it holds
-pub by_arm_lists : {X : Type 0} (parts lists : X → List Part) (arms : ℕ → Choice) (body : ℕ → Layout) (v : ℕ) (x y : X) (c : Choice) (b : Bool) (src out : List ℕ) (a m : Walk) (k : ℕ) (z : Here)
+pub by_arm_lists : {X : Type 0} (parts lists : X → List Part) (arms : ℕ → Option ℕ) (body : ℕ → Layout) (v : ℕ) (x y : X) (c : Option ℕ) (b : Bool) (src out : List ℕ) (a m : Walk) (k : ℕ) (z : Here)
     → x ≡ y → c ≡ arms v → b ≡ is_arm (arms v) (held (parts x)) → Dues v c b a m → parts y ≡ tag (held (parts y)) ∷ behind_arm (parts y) → leb 1 k ≡ true → Walks (k - 1) (body (held (parts y))) (behind_arm (parts y)) (lists y) src (here m out) z
     → Walks k (union (arms v) body v) (parts x) (lists x) src (here a out) z
 by_arm_lists parts lists arms body v x y c b src out a m k z e same told goes is fits p =

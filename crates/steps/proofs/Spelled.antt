@@ -6,7 +6,7 @@ use mathlib.Core.List.{List, ◌∷◌, ◌++◌}
 use lib.ListN.{length, take, drop}
 use lib.Dec.{leb, eqb}
 use borrow.Author.Tests.{leb-true}
-use Rattle.wire.specs.declared.choice.Choice.{Choice}
+use Rattle.std.specs.Prelude.{None, Some}
 use Rattle.wire.specs.Answers.{width_of, start_of, len_of}
 use Rattle.wire.specs.Bytes.{digits}
 use Rattle.wire.specs.Layout.{length_to}
@@ -46,9 +46,9 @@ step_is (Items i s) src at p =
     let (xs, e, q) = next_found (cut src (start_of s) (len_of s) at) _ p in
     let (same, inside) = cut_is src (start_of s) (len_of s) at e in
     (whole_same (most_items i) (item_layout i) xs (moved_found at (whole (most_items i) (item_layout i) xs) q) ∙ same, inside)
-step_is (Due v Choice.Nothing b) src at p = absurd (found_refused p)
-step_is (Due v (Choice.The t) true) src at p = (sym (found_same p), tt)
-step_is (Due v (Choice.The t) false) src at p = absurd (found_refused p)
+step_is (Due v None b) src at p = absurd (found_refused p)
+step_is (Due v (Some t) true) src at p = (sym (found_same p), tt)
+step_is (Due v (Some t) false) src at p = absurd (found_refused p)
 
 pub record Next (s : Step) (ss : List Step) (src : List ℕ) (at : ℕ) (rest : List ℕ) : Type 0 where
   pub inside : Inside s src

@@ -7,7 +7,7 @@ use mathlib.Core.List.{List, [], ◌∷◌, ◌++◌}
 use lib.ListN.{length-append}
 use lib.Dec.{leb, ltb}
 use borrow.Author.Tests.{leb-true, ltb-true}
-use Rattle.wire.specs.declared.choice.Choice.{Choice}
+use Rattle.std.specs.Prelude.{Option}
 use Rattle.wire.specs.declared.span.Span.{Span}
 use Rattle.wire.specs.declared.width.Width.{Width}
 use Rattle.wire.specs.Answers.{width_of, len_of, span_part}
@@ -84,7 +84,7 @@ module _ (src : List ℕ) where
 
   -- ---- a union with the parts us; c is the arm that its selector v chooses, and b whether it is the one that is held
 
-  module _ {c c' : Choice} {b : Bool} {us : List Part} {x y : Walk} {out : List ℕ} (v : ℕ) (same : c ≡ c') (told : b ≡ is_arm c' (held us)) (goes : Dues v c b x y) where
+  module _ {c c' : Option ℕ} {b : Bool} {us : List Part} {x y : Walk} {out : List ℕ} (v : ℕ) (same : c ≡ c') (told : b ≡ is_arm c' (held us)) (goes : Dues v c b x y) where
     begun : {h : ℕ} {ps : List Part} → us ≡ tag h ∷ ps → Goes (Due v c' (is_arm c' h) ∷ []) src (here x out) (here y out)
     begun e = rw (← ap (λ z. is_arm c' (held z)) e, ← told, ← same) (goes.goes src out)
 

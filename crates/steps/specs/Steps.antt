@@ -1,7 +1,6 @@
 -- The steps of a record, in wire order: what each spells, and which are those of a record. No code has a step. Assumes nothing.
-use Rattle.std.specs.Prelude.{ℕ, ◌+◌, Bool, true, false, cond, ◌≡◌, List, [], ◌∷◌, ◌++◌, length, take, drop, eqb}
+use Rattle.std.specs.Prelude.{ℕ, ◌+◌, Bool, true, false, cond, ◌≡◌, List, [], ◌∷◌, ◌++◌, length, take, drop, eqb, None, Option, Some}
 use Rattle.faults.specs.Faults.{no_such_arm, mismatch}
-use Rattle.wire.specs.declared.choice.Choice.{Choice}
 use Rattle.wire.specs.declared.span.Span.{Span}
 use Rattle.wire.specs.declared.width.Width.{Width}
 use Rattle.wire.specs.Answers.{width_of, start_of, len_of, span_part}
@@ -26,15 +25,15 @@ pub data Step : Type 0 where
   -- a list: its count and its items
   Items : ListOf → Span → Step
   -- an arm is due; whether the one that the selector chooses is held
-  Due : (selector : ℕ) → (chosen : Choice) → (held : Bool) → Step
+  Due : (selector : ℕ) → (chosen : Option ℕ) → (held : Bool) → Step
 
 -- ---- what steps spell
 
 -- where an arm is due no byte stands
-abbrev pub spell_due : (v : ℕ) → Choice → (held : Bool) → (at : ℕ) → Ans (List ℕ)
-spell_due v Choice.Nothing b at = refused (no_such_arm at v)
-spell_due v (Choice.The t) true at = found []
-spell_due v (Choice.The t) false at = refused (mismatch at v)
+abbrev pub spell_due : (v : ℕ) → Option ℕ → (held : Bool) → (at : ℕ) → Ans (List ℕ)
+spell_due v None b at = refused (no_such_arm at v)
+spell_due v (Some t) true at = found []
+spell_due v (Some t) false at = refused (mismatch at v)
 
 -- the bytes of a step at the place `at`, or what is wrong with it
 unfoldable pub spell_step : Step → (src : List ℕ) (at : ℕ) → Ans (List ℕ)
@@ -99,9 +98,9 @@ lines_of [] src at = []
 lines_of (s ∷ ss) src at = step_lines s src at ++ lines_of ss src (at + length (laid s src))
 
 -- how long the digest is that is due
-abbrev pub due_size : Choice → ℕ
-due_size Choice.Nothing = 0
-due_size (Choice.The t) = digest_size t
+abbrev pub due_size : Option ℕ → ℕ
+due_size None = 0
+due_size (Some t) = digest_size t
 
 -- ---- the steps of a record
 

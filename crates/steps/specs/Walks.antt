@@ -1,9 +1,8 @@
 -- What a walk over a record does: each step, in wire order, to the walk and to the lent buffer. Assumes nothing.
-use Rattle.std.specs.Prelude.{ℕ, zero, suc, ◌+◌, ◌*◌, ◌^◌, ◌≤◌, ◌<◌, Bool, true, false, cond, ◌≡◌, List, [], ◌∷◌, length, leb, eqb}
+use Rattle.std.specs.Prelude.{ℕ, zero, suc, ◌+◌, ◌*◌, ◌^◌, ◌≤◌, ◌<◌, Bool, true, false, cond, ◌≡◌, List, [], ◌∷◌, length, leb, eqb, None, Option, Some}
 use Rattle.faults.specs.declared.Fault.{Fault}
 use Rattle.faults.specs.declared.Refusal.{Refusal}
 use Rattle.faults.specs.Faults.{paper, refusal, no_field, no_such_arm, mismatch}
-use Rattle.wire.specs.declared.choice.Choice.{Choice}
 use Rattle.wire.specs.declared.span.Span.{Span}
 use Rattle.wire.specs.declared.width.Width.{Width}
 use Rattle.wire.specs.Answers.{width_of, start_of, len_of}
@@ -73,10 +72,10 @@ judged (found e) = judging e
 judged (refused f) = refusing f
 
 -- where an arm is due, nothing is done if it is held
-abbrev pub judge_due : (v : ℕ) → Choice → (held : Bool) → Walk → Walk
-judge_due v Choice.Nothing b w = refusing (no_such_arm w.at v)
-judge_due v (Choice.The t) true w = w
-judge_due v (Choice.The t) false w = refusing (mismatch w.at v)
+abbrev pub judge_due : (v : ℕ) → Option ℕ → (held : Bool) → Walk → Walk
+judge_due v None b w = refusing (no_such_arm w.at v)
+judge_due v (Some t) true w = w
+judge_due v (Some t) false w = refusing (mismatch w.at v)
 
 abbrev pub judge_sized : Step → (src : List ℕ) → Walk → Walk
 judge_sized s src w = cond (leb w.at far) (judged (after w.at (spell_step s src w.at))) w
@@ -257,7 +256,7 @@ pub record Numbers (w : Width) (rule : Rule) (n : ℕ) (a b : Here) : Type 0 whe
   pub fits : n < 256 ^ width_of w
 
 -- and past the place where an arm is due
-pub record Dues (v : ℕ) (c : Choice) (held : Bool) (a b : Walk) : Type 0 where
+pub record Dues (v : ℕ) (c : Option ℕ) (held : Bool) (a b : Walk) : Type 0 where
   pub goes : (src out : List ℕ) → Goes (Due v c held ∷ []) src (here a out) (here b out)
 
 -- ---- writing: measured first, and put only if the record is legal and there is room

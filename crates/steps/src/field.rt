@@ -7,7 +7,6 @@ ghost use Rattle.steps.specs.Walks.{seek_span, seek_answer, seek_start};
 
 use crate::walk::{FOUND, SEEK, Walk, finding, seeking};
 use faults::Refusal;
-use wire::measure::Measure;
 use wire::span::Span;
 
 fn seek_span(span: Span, index: usize) -> Walk
@@ -43,13 +42,13 @@ impl Walk {
     }
 
     // How long it is, or why there is none; `asked` is the index that was asked for.
-    pub fn size(self, s: &[u8], asked: usize) -> Measure
+    pub fn size(self, s: &[u8], asked: usize) -> Result<usize, Refusal>
         ensures { measure_answer result ≡ size_of (seek_answer self asked s.now) }
     {
         if self.mode == FOUND {
             let len = self.value as usize;
             return Span::new(self.at, len).measure(s, 0);
         }
-        Measure::No(Refusal::no_field(asked))
+        Err(Refusal::no_field(asked))
     }
 }

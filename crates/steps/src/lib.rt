@@ -3,6 +3,7 @@
 
 pub mod field;
 pub mod line;
+pub mod marshal;
 pub mod number;
 pub mod span;
 pub mod walk;

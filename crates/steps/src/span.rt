@@ -12,18 +12,16 @@ use faults::Refusal;
 use format::arms::DIGEST;
 use puts::write::put_span;
 use text::line::Word;
-use wire::choice::Choice;
-use wire::measure::Measure;
 use wire::span::Span;
 use wire::width::Width;
 
 // How long the digest is that is due.
-fn due_size(chosen: Choice) -> u16
+fn due_size(chosen: Option<u16>) -> u16
     ensures { result ≡ due_size chosen }
 {
     match chosen {
-        Choice::The(t) => if t < DIGEST { 0 } else { t - DIGEST },
-        Choice::Nothing => 0,
+        Some(t) => if t < DIGEST { 0 } else { t - DIGEST },
+        None => 0,
     }
 }
 
@@ -32,53 +30,46 @@ pub fn put_part(span: Span, src: &[u8], out: &mut [u8], at: usize) -> usize
     ensures { Moves (cut src.now (start_of span) (len_of span) at) at out.old result out.new }
 {
     match put_span(span, src, out, at) {
-        Measure::Size(k) => at + k,
-        Measure::No(_) => at,
+        Ok(k) => at + k,
+        Err(_) => at,
     }
 }
 
 // The place behind a digest at `at`, or what is wrong with it.
-fn judge_plain(size: u16, span: Span, src: &[u8], at: usize) -> Measure
+fn judge_plain(size: u16, span: Span, src: &[u8], at: usize) -> Result<usize, Refusal>
     requires { at ≤ 0x1000000 }
     ensures { (measure_answer result ≡ after at (spell_step (Plain size span) src.now at)) × Near result at }
 {
     let len = span.len();
     if len != size as usize {
-        return Measure::No(Refusal::mismatch(at, 0));
+        return Err(Refusal::mismatch(at, 0));
     }
-    match span.measure(src, at) {
-        Measure::Size(_) => {
-            let end = at + len;
-            Measure::Size(end)
-        }
-        Measure::No(f) => Measure::No(f),
-    }
+    span.measure(src, at)?;
+    let end = at + len;
+    Ok(end)
 }
 
 // The place behind a buffer at `at`, or what is wrong with it: its span is looked for before its length is judged.
-fn judge_buffer(limit: u16, span: Span, src: &[u8], at: usize) -> Measure
+fn judge_buffer(limit: u16, span: Span, src: &[u8], at: usize) -> Result<usize, Refusal>
     requires { at ≤ 0x1000000 }
     ensures { (measure_answer result ≡ after at (spell_step (Buffer limit span) src.now at)) × Near result at }
 {
     let size = span.len();
-    let len = match span.measure(src, at) {
-        Measure::Size(len) => len,
-        Measure::No(out) => return Measure::No(out),
-    };
+    let len = span.measure(src, at)?;
     if len <= limit as usize {
         let end = at + 2 + len;
-        return Measure::Size(end);
+        return Ok(end);
     }
-    Measure::No(Refusal::too_long(at, size as u64))
+    Err(Refusal::too_long(at, size as u64))
 }
 
 // What judging answered, as a walk.
-pub fn judged(m: Measure) -> Walk
+pub fn judged(m: Result<usize, Refusal>) -> Walk
     ensures { result ≡ judged (measure_answer m) }
 {
     match m {
-        Measure::Size(e) => judging(e),
-        Measure::No(f) => refusing(f),
+        Ok(e) => judging(e),
+        Err(f) => refusing(f),
     }
 }
 
@@ -92,8 +83,8 @@ impl Walk {
             return self;
         }
         match judge_plain(size, span, src, at) {
-            Measure::Size(e) => self.bytes_line(at, span, src, out).to_place(e),
-            Measure::No(f) => refusing(f),
+            Ok(e) => self.bytes_line(at, span, src, out).to_place(e),
+            Err(f) => refusing(f),
         }
     }
 
@@ -106,17 +97,17 @@ impl Walk {
             return self;
         }
         match judge_buffer(limit, span, src, at) {
-            Measure::Size(e) => {
+            Ok(e) => {
                 let body = at + 2;
                 let v = self.number_line(at, Word::Number, Width::Two, span.len() as u64, out);
                 v.bytes_line(body, span, src, out).to_place(e)
             }
-            Measure::No(f) => refusing(f),
+            Err(f) => refusing(f),
         }
     }
 
     // A digest of the size that is due.
-    pub fn plain(self, chosen: Choice, span: Span, src: &[u8], out: &mut [u8]) -> Walk
+    pub fn plain(self, chosen: Option<u16>, span: Span, src: &[u8], out: &mut [u8]) -> Walk
         ensures { Goes (Plain (due_size chosen) span ∷ []) src.now (here self out.old) (here result out.new) }
     {
         if self.mode == PUT {

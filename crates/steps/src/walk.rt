@@ -4,7 +4,6 @@ ghost use Rattle.wire.specs.Answers.{measure_answer};
 ghost use Rattle.steps.specs.Walks.{judging, putting, seeking, lining, list_seeking, finding, refusing, ready_walk, fault_of, walk_answer};
 
 use faults::{Fault, Refusal};
-use wire::measure::Measure;
 use wire::span::Span;
 
 // The modes of a walk. Behind FOUND come the refusals: FOUND and the number of the fault.
@@ -137,35 +136,35 @@ fn fault_of(n: usize) -> Fault
 }
 
 // After a record was measured: ready to put it, if there is room.
-pub fn ready(measured: Measure, room: usize) -> Walk
+pub fn ready(measured: Result<usize, Refusal>, room: usize) -> Walk
     ensures { result ≡ ready_walk (measure_answer measured) room }
 {
     match measured {
-        Measure::Size(n) => {
+        Ok(n) => {
             if n <= room {
                 return putting(0);
             }
             refusing(Refusal::no_room(0, n))
         }
-        Measure::No(f) => refusing(f),
+        Err(f) => refusing(f),
     }
 }
 
 impl Walk {
     // How far it came, or why not.
-    pub fn answer(self) -> Measure
+    pub fn answer(self) -> Result<usize, Refusal>
         ensures { measure_answer result ≡ walk_answer self }
     {
         if self.mode < LINES {
-            return Measure::Size(self.at);
+            return Ok(self.at);
         }
         if self.mode == LINES {
-            return Measure::Size(self.value as usize);
+            return Ok(self.value as usize);
         }
         if self.mode == LIST {
-            return Measure::Size(self.at);
+            return Ok(self.at);
         }
-        Measure::No(Refusal {
+        Err(Refusal {
             fault: fault_of(self.mode - FOUND),
             place: self.at,
             value: self.value,

@@ -6,10 +6,9 @@ use native.Mathlib.Omega.{arith}
 use mathlib.Core.Path.{◌≡◌, refl, sym, ap, ◌∙◌}
 use mathlib.Core.Bool.{Bool, true, false, cond}
 use mathlib.Core.List.{List, [], ◌∷◌, ◌++◌}
-use lib.ListN.{length, take, drop, set, length-append}
+use lib.ListN.{length, take, drop, length-append}
 use lib.Dec.{ltb, leb}
 use borrow.Author.Tests.{lt-ltb, le-ltb, leb-true, leb-false}
-use Rattle.wire.proofs.Filling.{Filling, filling_none, filling_more, filling_all}
 use Rattle.io.specs.Digits.{hex_digit_ascii, last_digits as digits, IsDigitCount}
 use Rattle.text.specs.Puts.{Puts}
 use Rattle.text.specs.Text.{decimal_in, decimal}
@@ -61,7 +60,7 @@ unfolding decimal
 decimal_few n h = below 20 3 n h
 
 -- and a number of 64 bits has no more than 20
-pub few_digits : (k n : ℕ) → n < 18446744073709551616 → (1 < k → 10 ^ (k - 1) ≤ n) → k ≤ 20
+few_digits : (k n : ℕ) → n < 18446744073709551616 → (1 < k → 10 ^ (k - 1) ≤ n) → k ≤ 20
 few_digits k n small above = by (leb k 20) refl
   where
     by : (b : Bool) → leb k 20 ≡ b → k ≤ 20
@@ -117,9 +116,6 @@ pub record Counted (n k rest : ℕ) : Type 0 where
   pub above : 10 ^ (k - 1) ≤ n
   pub left : rest ≡ n / 10 ^ k
 
-pub counted_four : (n : ℕ) → 1000 ≤ n → Counted n 4 (n / 10000)
-counted_four n h = record { some = omega arith; above = h; left = refl }
-
 module _ {n k rest : ℕ} (c : Counted n k rest) where
   -- where more is left, there is one more
   reaches : 0 < rest → 10 ^ k ≤ n
@@ -151,26 +147,3 @@ module _ {n k rest : ℕ} (c : Counted n k rest) where
 
   pub counted_few : n < 18446744073709551616 → k ≤ 20
   counted_few small = few_digits k n small (λ h. c.above)
-
--- ---- digits, put from the last to the first
-
--- of the k digits of n those from the place i on are put; the digits of rest are left
-pub record Placing (old : List ℕ) (at k n : ℕ) (out : List ℕ) (rest i : ℕ) : Type 0 where
-  pub from : at ≤ i
-  pub fills : Filling (digits 10) old at k n out rest (i - at)
-
-pub placing_none : (old : List ℕ) (at k n : ℕ) → Placing old at k n old n (at + k)
-placing_none old at k n =
-    let e : at + k - at ≡ k = omega arith in
-    record { from = omega arith; fills = rw e (filling_none old at k n) }
-
-module _ {old : List ℕ} {at k n : ℕ} {out : List ℕ} {rest i : ℕ} (p : Placing old at k n out rest i) where
-  pub placing_more : at + k ≤ length old → at < i → Placing old at k n (set out (i - 1) (hex_digit_ascii (rest % 10))) (rest / 10) (i - 1)
-  placing_more room h =
-      let place : i - 1 ≡ at + (i - at - 1) = omega arith in
-      let left : at + (i - at - 1) - at ≡ i - at - 1 = omega arith in
-      rw place
-      (record { from = omega arith; fills = rw left (filling_more (hex_digit_ascii (rest % 10)) (λ j. refl) (i - at) room (omega arith) p.fills) })
-
-  pub placing_all : i ≤ at → out ≡ take at old ++ (digits 10 k n ++ drop (at + k) old)
-  placing_all h = filling_all (i - at) refl (omega arith) p.fills

@@ -1,13 +1,14 @@
 -- Bytes put one behind the other. Assumes nothing.
-use Prim.Native.Nat.{ℕ, suc, ◌+◌, ◌-◌, ◌≤◌}
+use Prim.Native.Nat.{ℕ, suc, ◌+◌, ◌-◌, ◌≤◌, ◌<◌}
 use native.Mathlib.Omega.{arith}
 use mathlib.Core.Path.{◌≡◌, refl, sym, ap, ◌∙◌, subst}
 use mathlib.Core.Bool.{Bool, true, false}
-use mathlib.Core.List.{List, [], ◌∷◌, ◌++◌, append_assoc}
-use lib.ListN.{length, take, drop, set, length-append, length-drop, take-append-drop}
-use lib.Seq.{take_at, drop_at, drop-drop, length-take-le, sets, sets-eq}
+use mathlib.Core.List.{List, [], ◌∷◌, ◌++◌, append_assoc, append-nil}
+use lib.ListN.{length, take, drop, set, length-append, length-drop, take-append-drop, drop_of_length-le}
+use lib.Seq.{take_all, take_at, drop_at, drop-drop, length-take-le, sets, sets-eq}
 use lib.Dec.{leb}
-use borrow.Author.Tests.{le-leb, leb-true}
+use borrow.Author.Tests.{le-leb, leb-true, leb-false}
+use Rattle.std.proofs.lemmas.List.{length-take}
 use Rattle.wire.specs.Records.{found}
 use Rattle.wire.specs.Filling.{filled}
 use Rattle.text.specs.Puts.{Puts, Fits}
@@ -42,25 +43,40 @@ pub puts_length : {at : ℕ} {bs old : List ℕ} {r : ℕ} {last : List ℕ} →
 puts_length {at} {bs} {old} h p =
     omega (arith, p.behind, ap length p.holds, length-append (take at old) (bs ++ drop (at + length bs) old), length-append bs (drop (at + length bs) old), length-drop (at + length bs) old, length-take-le at old (omega (arith, p.behind)))
 
+-- what stands in front of the place behind them, and what stands from there on: past the end there is nothing
+parted : {at m : ℕ} {xs old mid : List ℕ} → Puts at xs old m mid → (take m mid ≡ take at old ++ xs) × (drop m mid ≡ drop m old)
+parted {at} {m} {xs} {old} {mid} p = by (leb m (length old)) refl
+  where
+    whole : mid ≡ (take at old ++ xs) ++ drop m old
+    whole = p.holds ∙ rw (p.behind) (sym (append_assoc (take at old) xs (drop (at + length xs) old)))
+
+    by : (b : Bool) → leb m (length old) ≡ b → (take m mid ≡ take at old ++ xs) × (drop m mid ≡ drop m old)
+    by true e =
+        let near : m ≤ length old = leb-true m (length old) e in
+        let size : length (take at old ++ xs) ≡ m = omega (arith, p.behind, length-append (take at old) xs, length-take-le at old (omega (arith, p.behind))) in
+        (rw whole (take_at (take at old ++ xs) (drop m old) m size), rw whole (drop_at (take at old ++ xs) (drop m old) m size))
+    by false e =
+        let far : length old < m = leb-false m (length old) e in
+        let none : drop m old ≡ [] = drop_of_length-le old (omega arith) in
+        let all : mid ≡ take at old ++ xs = whole ∙ rw (none, append-nil (take at old ++ xs)) in
+        let short : length mid ≤ m = omega (arith, p.behind, ap length all, length-append (take at old) xs, length-take at old) in
+        (take_all m mid short ∙ all, drop_of_length-le mid short ∙ sym none)
+
 -- bytes behind bytes
-pub puts_then : {at m r : ℕ} {xs ys old mid last : List ℕ} → m ≤ length old → Puts at xs old m mid → Puts m ys mid r last → Puts at (xs ++ ys) old r last
-puts_then {at} {m} {r} {xs} {ys} {old} {mid} {last} h p q =
-    let whole = length-append xs ys in
-    let front : length (take at old ++ xs) ≡ m = omega (arith, p.behind, length-append (take at old) xs, length-take-le at old (omega (arith, p.behind))) in
-    let bracketed : mid ≡ (take at old ++ xs) ++ drop (at + length xs) old = p.holds ∙ sym (append_assoc (take at old) xs (drop (at + length xs) old)) in
-    let begun : take m mid ≡ take at old ++ xs = ap (λ l. take m l) bracketed ∙ take_at (take at old ++ xs) (drop (at + length xs) old) m front in
-    let rest : drop m mid ≡ drop (at + length xs) old = ap (λ l. drop m l) bracketed ∙ drop_at (take at old ++ xs) (drop (at + length xs) old) m front in
-    let place : at + length xs + length ys ≡ at + length (xs ++ ys) = omega arith in
+pub puts_and : {at m r : ℕ} {xs ys old mid last : List ℕ} → Puts at xs old m mid → Puts m ys mid r last → Puts at (xs ++ ys) old r last
+puts_and {at} {m} {r} {xs} {ys} {old} {mid} {last} p q =
+    let (begun, rest) = parted p in
+    let place : m + length ys ≡ at + length (xs ++ ys) = omega (arith, p.behind, length-append xs ys) in
     let behind : drop (m + length ys) mid ≡ drop (at + length (xs ++ ys)) old =
-    sym (drop-drop (length ys) m mid) ∙ ap (λ l. drop (length ys) l) rest ∙ drop-drop (length ys) (at + length xs) old ∙ ap (λ n. drop n old) place in
+    sym (drop-drop (length ys) m mid) ∙ ap (λ l. drop (length ys) l) rest ∙ drop-drop (length ys) m old ∙ ap (λ n. drop n old) place in
     record {
-      behind = omega (arith, p.behind, q.behind);
-      holds = q.holds
-          ∙ ap (λ l. l ++ (ys ++ drop (m + length ys) mid)) begun
-          ∙ append_assoc (take at old) xs (ys ++ drop (m + length ys) mid)
-          ∙ ap (λ l. take at old ++ (xs ++ (ys ++ l))) behind
-          ∙ ap (λ l. take at old ++ l) (sym (append_assoc xs ys (drop (at + length (xs ++ ys)) old)));
+      behind = q.behind ∙ place;
+      holds = q.holds ∙ rw (begun, behind, append_assoc xs ys (drop (at + length (xs ++ ys)) old)) (append_assoc (take at old) xs (ys ++ drop (at + length (xs ++ ys)) old));
     }
+
+-- the same, for those who have room at hand
+pub puts_then : {at m r : ℕ} {xs ys old mid last : List ℕ} → m ≤ length old → Puts at xs old m mid → Puts m ys mid r last → Puts at (xs ++ ys) old r last
+puts_then h p q = puts_and p q
 
 -- nothing
 pub puts_none : (at : ℕ) (old : List ℕ) → Puts at [] old at old
@@ -71,9 +87,6 @@ puts_none at old = let here : at ≡ at + 0 = omega arith in record { behind = h
 -- where there is room
 pub room_there : (b : Bool) (at k n : ℕ) → b ≡ leb (at + k) n → b ≡ true → at + k ≤ n
 room_there b at k n test good = leb-true (at + k) n (sym test ∙ good)
-
-pub fitted_room : {b : Bool} (at : ℕ) (bs old : List ℕ) {n : ℕ} → n ≡ length bs → b ≡ leb (at + n) (length old) → b ≡ true → at + length bs ≤ length old
-fitted_room {b} at bs old {n} size test good = let room = room_there b at n (length old) test good in omega arith
 
 pub fits_exactly : {b : Bool} {at : ℕ} {bs old : List ℕ} {n r : ℕ} {last : List ℕ} → n ≡ length bs → b ≡ leb (at + n) (length old) → b ≡ true → Puts at bs old r last → Fits at bs old n last
 fits_exactly {at = at} {bs = bs} {old = old} size test good p =
@@ -90,18 +103,9 @@ fits_at_once {b} {at} {bs} {old} k few test good p =
 pub fits_puts : {at : ℕ} {bs old : List ℕ} {r : ℕ} {last : List ℕ} → at + length bs ≤ length old → Fits at bs old r last → Puts at bs old (at + length bs) last
 fits_puts {at} {bs} {old} room p = record { behind = refl; holds = p.holds ∙ rw (le-leb (at + length bs) (length old) room) }
 
--- where there is no room
-pub fits_not : {b : Bool} (at : ℕ) (bs old : List ℕ) {n : ℕ} → n ≡ length bs → b ≡ leb (at + n) (length old) → b ≡ false → Fits at bs old n old
-fits_not at bs old size test bad =
-    let none : leb (at + length bs) (length old) ≡ false = ap (λ n. leb (at + n) (length old)) (sym size) ∙ sym test ∙ bad in
-    record { size = size; holds = rw none }
-
 -- bytes that were made beside
 pub made : {bs old : List ℕ} {k : ℕ} {row : List ℕ} → Puts 0 bs old k row → take k row ≡ bs
 made {bs} {old} {k} p = ap (λ l. take k l) p.holds ∙ take_at bs (drop (0 + length bs) old) k (omega (arith, p.behind))
 
 pub fits_same : {at : ℕ} {xs ys old : List ℕ} {r : ℕ} {last : List ℕ} → xs ≡ ys → Fits at xs old r last → Fits at ys old r last
 fits_same {at} {old = old} {r = r} {last = last} e p = subst (λ bs. Fits at bs old r last) e p
-
-pub made_inside : {bs old : List ℕ} {k : ℕ} {row : List ℕ} (m : ℕ) → Puts 0 bs old k row → length bs ≤ m → m ≤ length old → k ≤ length row
-made_inside m p few room = omega (arith, p.behind, puts_length (omega (arith, p.behind)) p)

@@ -6,6 +6,8 @@ use Rattle.faults.specs.declared.Fault.TheVariants.{Short, UnknownCode, NoArm, T
 use Rattle.faults.specs.declared.Refusal.{Refusal}
 use Rattle.faults.specs.Faults.{paper}
 use Rattle.wire.specs.Lines.{Says, a_code, a_number, the_bytes, Line}
+use Rattle.text.specs.declared.answer.Answer.{Answer}
+use Rattle.text.specs.declared.answer.Answer.TheVariants.{Read, RecordAt, Refused}
 use Rattle.text.specs.declared.line.Word.{Word}
 use Rattle.text.specs.Ascii.{ascii}
 
@@ -80,3 +82,9 @@ abbrev pub refused_text : (kind : ℕ) → Refusal → List ℕ
 refused_text k f =
     ascii "kind " ++ (decimal k ++ (ascii " refused " ++ (decimal (paper f.fault).number ++ (ascii " at " ++ (decimal f.place
     ++ (ascii " value " ++ (decimal f.value ++ (had_text f.fault f.had ++ ascii "\n"))))))))
+
+-- the line of an answer
+abbrev pub answer_text : Answer → List ℕ
+answer_text (Read k e t) = read_text k e t
+answer_text (RecordAt n p) = record_at_text n p
+answer_text (Refused k f) = refused_text k f

@@ -1,5 +1,5 @@
 // The lines of a listing: place, size, a word, and what it says.
-ghost use Rattle.std.specs.Prelude.{◌++◌, ◌≡◌, ◌+◌, ◌≤◌, length};
+ghost use Rattle.std.specs.Prelude.{◌++◌, ◌≡◌, ◌+◌, ◌*◌, ◌≤◌, length};
 ghost use Rattle.wire.specs.Lines.{line, the_bytes};
 ghost use Rattle.text.specs.Ascii.{ascii};
 ghost use Rattle.text.specs.Puts.{Puts, Fits};
@@ -17,28 +17,23 @@ pub enum Word {
 // Where a field stands and how many bytes it has.
 fn put_head(place: usize, size: usize, out: &mut [u8], at: usize) -> usize
     requires { at + 41 ≤ length out.old }
-    ensures { Puts at (decimal place ++ (ascii " " ++ decimal size)) out.old result out.new }
+    ensures puts { Puts at (decimal place ++ (ascii " " ++ decimal size)) out.old result out.new }
+    ensures within { result ≤ at + 41 }
 {
     let first = put_decimal(place as u64, out, at);
-    let space = [b' '];
-    let second = put_text(&space, out, first);
+    let second = put_text(b" ", out, first);
     put_decimal(size as u64, out, second)
 }
 
 // The word for a number.
 fn put_word(word: Word, out: &mut [u8], at: usize) -> usize
     requires { at + 8 ≤ length out.old }
-    ensures { Puts at (word_text word) out.old result out.new }
+    ensures puts { Puts at (word_text word) out.old result out.new }
+    ensures within { result ≤ at + 8 }
 {
     match word {
-        Word::Code => {
-            let text = [b' ', b'c', b'o', b'd', b'e', b' '];
-            put_text(&text, out, at)
-        }
-        Word::Number => {
-            let text = [b' ', b'n', b'u', b'm', b'b', b'e', b'r', b' '];
-            put_text(&text, out, at)
-        }
+        Word::Code => put_text(b" code ", out, at),
+        Word::Number => put_text(b" number ", out, at),
     }
 }
 
@@ -46,8 +41,7 @@ pub(crate) fn put_line_end(out: &mut [u8], at: usize) -> usize
     requires { at + 1 ≤ length out.old }
     ensures { Puts at (ascii "\n") out.old result out.new }
 {
-    let text = [b'\n'];
-    put_text(&text, out, at)
+    put_text(b"\n", out, at)
 }
 
 // The line of a number.
@@ -60,7 +54,8 @@ fn put_number_line(
     at: usize,
 ) -> usize
     requires { at + 70 ≤ length out.old }
-    ensures { Puts at (line_text (line place size (say_word word n))) out.old result out.new }
+    ensures puts { Puts at (line_text (line place size (say_word word n))) out.old result out.new }
+    ensures within { result ≤ at + 70 }
 {
     let head = put_head(place, size, out, at);
     let said = put_word(word, out, head);
@@ -101,11 +96,11 @@ pub fn fit_number_line(
 // The line of bytes, up to them.
 fn put_bytes_head(place: usize, size: usize, out: &mut [u8], at: usize) -> usize
     requires { at + 48 ≤ length out.old }
-    ensures { Puts at ((decimal place ++ (ascii " " ++ decimal size)) ++ ascii " bytes ") out.old result out.new }
+    ensures puts { Puts at ((decimal place ++ (ascii " " ++ decimal size)) ++ ascii " bytes ") out.old result out.new }
+    ensures within { result ≤ at + 48 }
 {
     let head = put_head(place, size, out, at);
-    let word = [b' ', b'b', b'y', b't', b'e', b's', b' '];
-    put_text(&word, out, head)
+    put_text(b" bytes ", out, head)
 }
 
 // And the rest of it.
@@ -120,10 +115,10 @@ fn put_bytes_end(xs: &[u8], out: &mut [u8], at: usize) -> usize
 // How long that is.
 fn bytes_end_size(xs: &[u8]) -> usize
     requires { length xs.now ≤ 0x10001 }
-    ensures { result ≡ length (hex xs.now ++ ascii "\n") }
+    ensures size { result ≡ length (hex xs.now ++ ascii "\n") }
+    ensures within { result ≤ 2 * length xs.now + 2 }
 {
-    let len = xs.len();
-    if len == 0 { 2 } else { 2 * len + 1 }
+    if xs.is_empty() { 2 } else { 2 * xs.len() + 1 }
 }
 
 // The line of bytes where there may be too little room for it: its front is made beside out.

@@ -8,7 +8,7 @@ ghost use Rattle.text.specs.Text.{decimal, pairs, hex};
 pub(crate) fn room(at: usize, k: usize, n: usize) -> bool
     ensures { result ≡ leb (at + k) n }
 {
-    if at <= n { k <= n - at } else { false }
+    at <= n && k <= n - at
 }
 
 // All of a text at the place `at` of out, and the place behind it.
@@ -16,11 +16,10 @@ pub(crate) fn put_text(text: &[u8], out: &mut [u8], at: usize) -> usize
     requires { at + length text.now ≤ length out.old }
     ensures { Puts at text.now out.old result out.new }
 {
+    // Words are short: a call that copies a slice costs more than they do.
     let len = text.len();
-    let mut i: usize = 0;
-    while i < len {
+    for i in 0..len {
         out[at + i] = text[i];
-        i += 1;
     }
     at + len
 }
@@ -41,19 +40,20 @@ fn figure(d: u64) -> u8
     requires { d < 10 }
     ensures { result ≡ hex_digit_ascii d }
 {
-    48 + d as u8
+    b'0' + d as u8
 }
 
 // How many digits a number has that has at least four.
 fn places(n: u64) -> usize
     requires { 1000 ≤ n }
-    ensures { IsDigitCount 10 1 n result }
+    ensures count { IsDigitCount 10 1 n result }
+    ensures few { result ≤ 20 }
 {
     let mut k: usize = 4;
     let mut rest = n / 10000;
     while 0 < rest {
         k += 1;
-        rest = rest / 10;
+        rest /= 10;
     }
     k
 }
@@ -64,18 +64,18 @@ fn put_places(n: u64, k: usize, out: &mut [u8], at: usize)
     ensures { out.new ≡ take at out.old ++ (last_digits 10 k n ++ drop (at + k) out.old) }
 {
     let mut rest = n;
-    let mut i = at + k;
-    while at < i {
-        i -= 1;
+    for i in (at..at + k).rev() {
         out[i] = figure(rest % 10);
-        rest = rest / 10;
+        rest /= 10;
     }
 }
 
 // A number of at least four digits in decimal.
 fn put_long(n: u64, out: &mut [u8], at: usize) -> usize
-    requires { (1000 ≤ n) × (at + 20 ≤ length out.old) }
-    ensures { Puts at (decimal n) out.old result out.new }
+    requires many { 1000 ≤ n }
+    requires room { at + 20 ≤ length out.old }
+    ensures puts { Puts at (decimal n) out.old result out.new }
+    ensures within { result ≤ at + 20 }
 {
     let k = places(n);
     put_places(n, k, out, at);
@@ -85,7 +85,8 @@ fn put_long(n: u64, out: &mut [u8], at: usize) -> usize
 // A number in decimal. Most have few digits, and those are put at once.
 pub(crate) fn put_decimal(n: u64, out: &mut [u8], at: usize) -> usize
     requires { at + 20 ≤ length out.old }
-    ensures { Puts at (decimal n) out.old result out.new }
+    ensures puts { Puts at (decimal n) out.old result out.new }
+    ensures within { result ≤ at + 20 }
 {
     if n < 10 {
         out[at] = figure(n);
@@ -110,7 +111,7 @@ fn digit(d: u8) -> u8
     requires { d < 16 }
     ensures { result ≡ hex_digit_ascii d }
 {
-    if d < 10 { 48 + d } else { 87 + d }
+    if d < 10 { b'0' + d } else { b'a' - 10 + d }
 }
 
 // A byte as two digits.
@@ -118,9 +119,7 @@ fn put_pair(b: u8, out: &mut [u8], at: usize) -> usize
     requires { at + 2 ≤ length out.old }
     ensures { Puts at (pairs (b ∷ [])) out.old result out.new }
 {
-    out[at] = digit(b / 16);
-    out[at + 1] = digit(b % 16);
-    at + 2
+    put_text(&[digit(b / 16), digit(b % 16)], out, at)
 }
 
 // Bytes in hexadecimal; `-` for none.
@@ -128,16 +127,12 @@ pub fn put_hex(xs: &[u8], out: &mut [u8], at: usize) -> usize
     requires { at + (2 * length xs.now + 1) ≤ length out.old }
     ensures { Puts at (hex xs.now) out.old result out.new }
 {
-    let len = xs.len();
-    if len == 0 {
-        let none = [b'-'];
-        return put_text(&none, out, at);
+    if xs.is_empty() {
+        return put_text(b"-", out, at);
     }
     let mut end = at;
-    let mut i: usize = 0;
-    while i < len {
-        end = put_pair(xs[i], out, end);
-        i += 1;
+    for x in xs {
+        end = put_pair(*x, out, end);
     }
     end
 }

@@ -43,9 +43,9 @@ judged_one w r src at = go (piece w src at)
     go (found xs) = after (be xs) (allows r (be xs))
     go (refused f) = refl
 
-pub by_rule : {A : Type 0} (ans : A → Ans Parsed) {a b : A} {z : Ans Parsed} (w : ℕ) (r : Rule) (src : List ℕ) (at : ℕ)
-    → a ≡ b → ans a ≡ read (one w free) src at → Shows z (judged r at (ans b)) → Shows z (read (one w r) src at)
-by_rule ans {z = z} w r src at q p s = subst (λ x. Shows z x) (ap (λ x. judged r at x) (sym (ap ans q) ∙ p) ∙ judged_one w r src at) s
+pub by_rule : {x z : Ans Parsed} (w : ℕ) (r : Rule) (src : List ℕ) (at : ℕ)
+    → x ≡ read (one w free) src at → Shows z (judged r at x) → Shows z (read (one w r) src at)
+by_rule {z = z} w r src at p s = subst (λ x. Shows z x) (ap (λ x. judged r at x) p ∙ judged_one w r src at) s
 
 -- the rule allows the number, or not
 pub allowed : (t : Bool) {z : Ans Parsed} (x y : Ans Parsed) → true ≡ t → Shows z x → Shows z (cond t x y)
@@ -58,8 +58,8 @@ barred t x y p q = rw (← p) q
 pub of_code : {f : Refusal} {at w n : ℕ} → f ≡ unknown_code at w → w ≡ n → Shows (refused f) (refused (unknown_code at n))
 of_code p q = rw (p, q) same
 
-pub of_value : {f : Refusal} {at n : ℕ} → f ≡ bad_value at n → Shows (refused f) (refused (bad_value at n))
-of_value p = rw p same
+pub of_value : {f : Refusal} {at w n : ℕ} → f ≡ bad_value at w → w ≡ n → Shows (refused f) (refused (bad_value at n))
+of_value p q = rw (p, q) same
 
 pub ruleset judgements = (via, same, allowed, barred, of_code, of_value)
 
@@ -70,10 +70,10 @@ abbrev pub IsNumber : Ans Parsed → ℕ → Type 0
 IsNumber (refused f) n = ⊥
 IsNumber (found p) n = p.parts ≡ num n ∷ []
 
-pub read_fits : (w : ℕ) {A : Type 0} (ans : A → Ans Parsed) {a b : A} {n : ℕ} (src : List ℕ) (at : ℕ)
-    → a ≡ b → ans a ≡ read (one w free) src at → IsNumber (ans b) n → ((i : ℕ) → Fits w8 (get_or src i 0)) → n < 256 ^ w
+pub read_fits : (w : ℕ) {x : Ans Parsed} {n : ℕ} (src : List ℕ) (at : ℕ)
+    → x ≡ read (one w free) src at → IsNumber x n → ((i : ℕ) → Fits w8 (get_or src i 0)) → n < 256 ^ w
 unfolding read
-read_fits w ans {b = b} {n} src at q p h s = go (ans b) (sym (ap ans q) ∙ p) h
+read_fits w {x} {n} src at p h s = go x p h
   where
     go : (a : Ans Parsed) → a ≡ read (one w free) src at → IsNumber a n → n < 256 ^ w
     go (found r) p h =

@@ -13,7 +13,7 @@ use lib.Dec.{leb}
 use borrow.Author.Tests.{le-leb, lt-leb, leb-true, leb-false}
 use Rattle.faults.specs.declared.Refusal.{Refusal}
 use Rattle.faults.specs.Faults.{no_room}
-use Rattle.wire.specs.declared.measure.Measure.{Measure}
+use Rattle.std.specs.Prelude.{Result}
 use Rattle.wire.specs.Answers.{measure_answer}
 use Rattle.wire.specs.Records.{Ans, found, refused}
 use Rattle.wire.specs.Refusals.{HadFew}
@@ -113,11 +113,11 @@ size_of_refused (found bs) p = absurd (found_refused (sym p))
 size_of_refused (refused g) p = ap refused (refused_same p)
 
 -- what the code answered of a size, in the definitions' terms, and back
-module _ (a : Ans (List ℕ)) (m : Measure) (answer : measure_answer m ≡ size_of a) where
-  pub size_told : {x : Measure} → m ≡ x → size_of a ≡ measure_answer x
+module _ (a : Ans (List ℕ)) (m : Result ℕ Refusal) (answer : measure_answer m ≡ size_of a) where
+  pub size_told : {x : Result ℕ Refusal} → m ≡ x → size_of a ≡ measure_answer x
   size_told e = sym answer ∙ ap measure_answer e
 
-  pub size_answers : (x : Measure) → size_of a ≡ measure_answer x → m ≡ x
+  pub size_answers : (x : Result ℕ Refusal) → size_of a ≡ measure_answer x → m ≡ x
   size_answers x e = measure_answer_once m x (answer ∙ e)
 
 -- what a writer answers is the size, with room for it

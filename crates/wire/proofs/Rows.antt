@@ -2,12 +2,11 @@
 -- the first row of a selector or an arm decides, and ours come first. Assumes nothing.
 use Prim.Native.Nat.{ℕ}
 use native.Mathlib.Omega.{arith}
+use Rattle.std.specs.Prelude.{Option, Some, None}
 use mathlib.Core.Path.{◌≡◌, refl}
 use mathlib.Core.Bool.{Bool, true, false, cond}
 use mathlib.Core.List.{List, [], ◌∷◌, ◌++◌}
 use lib.Dec.{eqb}
-use Rattle.wire.specs.declared.choice.Choice.{Choice}
-use Rattle.wire.specs.declared.choice.Choice.TheVariants.{Nothing, The}
 use Rattle.wire.specs.Layout.{Layout}
 use Rattle.wire.specs.Unions.{Row, row, arm_of, body_of, union}
 use Rattle.wire.specs.Editions.{Later, arm_new, arm_same}
@@ -24,11 +23,11 @@ rows_behind [] ss = more_rows ss
 rows_behind (r ∷ rs) ss = row_later (later_refl r.holds) (rows_behind rs ss)
 
 -- what a selector of ours chooses it chooses there too
-choice_kept : {rs ss : List Row} → LaterRows rs ss → (v : ℕ) {t : ℕ} → arm_of rs v ≡ The t → arm_of ss v ≡ The t
+choice_kept : {rs ss : List Row} → LaterRows rs ss → (v : ℕ) {t : ℕ} → arm_of rs v ≡ Some t → arm_of ss v ≡ Some t
 choice_kept (more_rows ss) v e = let z : ◌≡◌ {A = ℕ} 0 1 = cc in absurd (omega arith)
 choice_kept (row_later {v = w} {t = u} {rs = rs} {ss = ss} x xs) v {t} e = by (eqb v w) e (λ q. choice_kept xs v q)
   where
-    by : (b : Bool) → cond b (The u) (arm_of rs v) ≡ The t → (arm_of rs v ≡ The t → arm_of ss v ≡ The t) → cond b (The u) (arm_of ss v) ≡ The t
+    by : (b : Bool) → cond b (Some u) (arm_of rs v) ≡ Some t → (arm_of rs v ≡ Some t → arm_of ss v ≡ Some t) → cond b (Some u) (arm_of ss v) ≡ Some t
     by true q behind = q
     by false q behind = behind q
 
@@ -45,6 +44,6 @@ body_later (row_later {t = u} {l} {l'} {rs} {ss} x xs) t = by (eqb t u) (body_la
 pub union_later : {rs ss : List Row} → LaterRows rs ss → (v : ℕ) → Later (union (arm_of rs v) (λ t. body_of rs t) v) (union (arm_of ss v) (λ t. body_of ss t) v)
 union_later {rs} {ss} xs v = by (arm_of rs v) refl
   where
-    by : (c : Choice) → arm_of rs v ≡ c → Later (union c (λ t. body_of rs t) v) (union (arm_of ss v) (λ t. body_of ss t) v)
-    by Nothing e = arm_new
-    by (The t) e = rw (choice_kept xs v e) (arm_same (body_later xs t))
+    by : (c : Option ℕ) → arm_of rs v ≡ c → Later (union c (λ t. body_of rs t) v) (union (arm_of ss v) (λ t. body_of ss t) v)
+    by None e = arm_new
+    by (Some t) e = rw (choice_kept xs v e) (arm_same (body_later xs t))

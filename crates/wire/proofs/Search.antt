@@ -1,13 +1,13 @@
 -- Laws for `search`: what a callee answered, once it is known which answer it was, in its place in the layout that is read. A law's
 -- premises are what is known where a function returns: first which answer it was, then what the callee ensures. Assumes nothing.
 use Prim.Native.Nat.{ℕ}
+use Rattle.std.specs.Prelude.{Option, Some, None, Result, Ok, Err, IsErr, IsErrAnd}
 use mathlib.Core.Path.{◌≡◌, refl, sym, ap, subst, ◌∙◌}
 use mathlib.Core.Bool.{Bool, false}
 use mathlib.Core.List.{List, [], ◌∷◌, ◌++◌}
 use Rattle.faults.specs.declared.Refusal.{Refusal}
 use Rattle.faults.specs.Faults.{no_such_arm}
-use Rattle.wire.specs.declared.choice.Choice.{Choice}
-use Rattle.wire.specs.declared.choice.Choice.TheVariants.{Nothing, The}
+use Rattle.wire.specs.Answers.{answer, measure_answer}
 use Rattle.wire.specs.Layout.{Rule, Layout, stop, arm, number, buffer, one, ◌then◌}
 use Rattle.wire.specs.Records.{Part, num, tag, span, Ans, found, Parsed, refused, parsed, next}
 use Rattle.wire.specs.Reading.{also, field, read}
@@ -34,6 +34,21 @@ pub data Shows : Ans Parsed → Ans Parsed → Type 0 where
 pub shown : {z x : Ans Parsed} → Shows z x → z ≡ x
 shown same = refl
 
+-- the exit of a `?` returns the refusal that came
+left_by : {A : Type 0} (r : Result A Refusal) (f : Refusal) → IsErr r × IsErrAnd r (λ e. e ≡ f) → r ≡ Err f
+left_by (Ok x) f (p, q) = absurd q
+left_by (Err e) f (p, q) = ap Err q
+
+-- so what holds of that refusal holds of what is returned
+pub leaves_as : {A : Type 0} (P : Result A Refusal → Type 0) (r : Result A Refusal) (f : Refusal) → IsErr r × IsErrAnd r (λ e. e ≡ f) → P (Err f) → P r
+leaves_as P r f p q = subst P (sym (left_by r f p)) q
+
+pub leaves : {A : Type 0} (parts : A → List Part) (r : Result (A × ℕ) Refusal) (f : Refusal) {x : Ans Parsed} → IsErr r × IsErrAnd r (λ e. e ≡ f) → refused f ≡ x → answer parts r ≡ x
+leaves parts r f {x} p q = leaves_as (λ r. answer parts r ≡ x) r f p q
+
+pub leaves_measure : (r : Result ℕ Refusal) (f : Refusal) {x : Ans ℕ} → IsErr r × IsErrAnd r (λ e. e ≡ f) → refused f ≡ x → measure_answer r ≡ x
+leaves_measure r f {x} p q = leaves_as (λ r. measure_answer r ≡ x) r f p q
+
 -- a record that was found, and a refusal: the form of the answer is computed once, before the search
 pub finds : {ps : List Part} {e : ℕ} {x : Ans Parsed} → Shows (parsed ps e) x → parsed ps e ≡ x
 finds p = shown p
@@ -44,7 +59,7 @@ refuses p = shown p
 showing : {z x : Ans Parsed} → z ≡ x → Shows z x
 showing {z} p = subst (λ x. Shows z x) p same
 
--- ---- one field, or one record, of a layout; `ans` says what the callee's answers mean, and z is the answer that is to be shown
+-- ---- one field, or one record, of a layout; z is the answer that is to be shown
 
 -- a number's answer, and with the number what is read behind it
 abbrev within : List Part → (ℕ → Ans Parsed) → Ans Parsed
@@ -78,21 +93,21 @@ ahead_both : (a : Ans Parsed) (k : ℕ → Ans Parsed) → ahead a k ≡ both a 
 ahead_both (found r) k = heads_behind r.parts (k r.stops)
 ahead_both (refused f) k = refl
 
-module _ {A : Type 0} (ans : A → Ans Parsed) {a b : A} {z : Ans Parsed} (src : List ℕ) (at : ℕ) where
-  pub by_number : (w : ℕ) (r : Rule) (k : ℕ → Layout) → a ≡ b → ans a ≡ read (one w r) src at
-      → Shows z (onward (ans b) (λ n e. read (k n) src e)) → Shows z (read (number w r k) src at)
+-- x is what was answered of the field in front, as its reader ensures it
+module _ {x z : Ans Parsed} (src : List ℕ) (at : ℕ) where
+  pub by_number : (w : ℕ) (r : Rule) (k : ℕ → Layout) → x ≡ read (one w r) src at → Shows z (onward x (λ n e. read (k n) src e)) → Shows z (read (number w r k) src at)
   unfolding read
-  by_number w r k q p s = showing (shown s ∙ ap (λ x. onward x (λ n e. read (k n) src e)) (sym (ap ans q) ∙ p) ∙ onward_field k src _ (field w r src at))
+  by_number w r k p s = showing (shown s ∙ ap (λ x. onward x (λ n e. read (k n) src e)) p ∙ onward_field k src _ (field w r src at))
 
-  pub by_then : (l m : Layout) → a ≡ b → ans a ≡ read l src at → Shows z (both (ans b) (λ e. read m src e)) → Shows z (read (l then m) src at)
-  by_then l m q p s = showing (shown s ∙ ap (λ x. both x (λ e. read m src e)) (sym (ap ans q) ∙ p) ∙ sym (read_then l m src at))
+  pub by_then : (l m : Layout) → x ≡ read l src at → Shows z (both x (λ e. read m src e)) → Shows z (read (l then m) src at)
+  by_then l m p s = showing (shown s ∙ ap (λ x. both x (λ e. read m src e)) p ∙ sym (read_then l m src at))
 
-  pub by_buffer : (w m : ℕ) (l : Layout) → a ≡ b → ans a ≡ read (buffer w m stop) src at → Shows z (ahead (ans b) (λ e. read l src e)) → Shows z (read (buffer w m l) src at)
+  pub by_buffer : (w m : ℕ) (l : Layout) → x ≡ read (buffer w m stop) src at → Shows z (ahead x (λ e. read l src e)) → Shows z (read (buffer w m l) src at)
   unfolding ◌then◌
-  by_buffer w m l q p s = by_then (buffer w m stop) l q p (showing (shown s ∙ ahead_both (ans b) (λ e. read l src e)))
+  by_buffer w m l p s = by_then (buffer w m stop) l p (showing (shown s ∙ ahead_both x (λ e. read l src e)))
 
-  pub by_whole : (l : Layout) → a ≡ b → ans a ≡ read l src at → Shows z (ans b) → Shows z (read l src at)
-  by_whole l q p s = showing (known ans q p (shown s))
+  pub by_whole : (l : Layout) → x ≡ read l src at → Shows z x → Shows z (read l src at)
+  by_whole l p s = showing (shown s ∙ p)
 
 -- ---- what stands in front
 
@@ -130,34 +145,37 @@ pub in_arm : (by : ℕ → Layout) {v x : ℕ} {z : Ans Parsed} (src : List ℕ)
 in_arm by src at q p = rw q p
 
 -- a callee says which arm the selector v chooses
-module _ (arm : ℕ → Choice) (body : ℕ → Layout) where
+module _ (arm : ℕ → Option ℕ) (body : ℕ → Layout) where
   -- it is t, which is u
-  pub chosen : (u : ℕ) {a : Choice} {t : ℕ} {z : Ans Parsed} (v : ℕ) (src : List ℕ) (at : ℕ)
-      → a ≡ The t → a ≡ arm v → t ≡ u → Shows z (also (tag u) (read (body u) src at)) → Shows z (read (union (arm v) body v) src at)
+  pub chosen : (u : ℕ) {a : Option ℕ} {t : ℕ} {z : Ans Parsed} (v : ℕ) (src : List ℕ) (at : ℕ)
+      → a ≡ Some t → a ≡ arm v → t ≡ u → Shows z (also (tag u) (read (body u) src at)) → Shows z (read (union (arm v) body v) src at)
   unfolding read
   chosen u v src at q p e s = rw (← p, q, e) s
 
   -- it answers b, by which f chooses
-  pub chosen_by : {A : Type 0} (f : A → Choice) {a b : A} {z : Ans Parsed} (v : ℕ) (src : List ℕ) (at : ℕ)
+  pub chosen_by : {A : Type 0} (f : A → Option ℕ) {a b : A} {z : Ans Parsed} (v : ℕ) (src : List ℕ) (at : ℕ)
       → a ≡ b → f a ≡ arm v → Shows z (read (union (f b) body v) src at) → Shows z (read (union (arm v) body v) src at)
   chosen_by f v src at q p s = rw (← p, q) s
 
   -- there is none, and the refusal says so
   pub no_arm_due : {f : Refusal} {w : ℕ} (v : ℕ) (src : List ℕ) (at : ℕ)
-      → f ≡ no_such_arm at w → w ≡ v → Nothing ≡ arm v → refused f ≡ read (union (arm v) body v) src at
+      → f ≡ no_such_arm at w → w ≡ v → None ≡ arm v → refused f ≡ read (union (arm v) body v) src at
   unfolding read
   no_arm_due v src at p q e = rw (p, q, ← e)
 
 -- the payload s is the arm s', and c is the choice d
-pub is_arm_lem : {S : Type 0} (parts : S → List Part) {s s' : S} {c d : Choice} {r : Bool} → s ≡ s' → c ≡ d → r ≡ is_arm c (held (parts s')) → r ≡ is_arm d (held (parts s))
+pub is_arm_lem : {S : Type 0} (parts : S → List Part) {s s' : S} {c d : Option ℕ} {r : Bool} → s ≡ s' → c ≡ d → r ≡ is_arm c (held (parts s')) → r ≡ is_arm d (held (parts s))
 is_arm_lem parts q p h = rw (q, ← p) h
 
 -- the callee answers b, by which f chooses
-pub is_arm_by : {A S : Type 0} (f : A → Choice) (parts : S → List Part) {s s' : S} {a b : A} {d : Choice} {r : Bool}
+pub is_arm_by : {A S : Type 0} (f : A → Option ℕ) (parts : S → List Part) {s s' : S} {a b : A} {d : Option ℕ} {r : Bool}
     → s ≡ s' → a ≡ b → f a ≡ d → r ≡ is_arm (f b) (held (parts s')) → r ≡ is_arm d (held (parts s))
 is_arm_by f parts e q p h = is_arm_lem parts e (sym (ap f q) ∙ p) h
 
-pub is_none_by : {A : Type 0} (f : A → Choice) {a b : A} {d : Choice} (t : ℕ) → a ≡ b → f a ≡ d → Nothing ≡ f b → false ≡ is_arm d t
+pub is_none_by : {A : Type 0} (f : A → Option ℕ) {a b : A} {d : Option ℕ} (t : ℕ) → a ≡ b → f a ≡ d → None ≡ f b → false ≡ is_arm d t
 is_none_by f t q p h = rw (← p, q, ← h)
 
 pub ruleset rests = (same, front_no, front, front_same, fronts_no, fronts, at_arm, at_stop)
+
+-- field by field; what was answered of each is listed beside it
+pub ruleset reading = (by_number, by_buffer, by_then, by_whole, same, front_no, front, front_same, fronts_no, fronts, at_arm, at_stop)

@@ -1,11 +1,9 @@
 -- What the code's widths, spans and answers mean, as numbers, parts and answers of the definitions. Assumes nothing.
-use Rattle.std.specs.Prelude.{ℕ, [], ◌∷◌}
+use Rattle.std.specs.Prelude.{ℕ, List, [], ◌∷◌, Result, Ok, Err}
 use Rattle.wire.specs.declared.width.Width.{Width}
 use Rattle.wire.specs.declared.width.Width.TheVariants.{One, Two, Four, Eight}
 use Rattle.wire.specs.declared.span.Span.{Span}
-use Rattle.wire.specs.declared.read.NumberRead.{NumberRead}
-use Rattle.wire.specs.declared.read.SpanRead.{SpanRead}
-use Rattle.wire.specs.declared.measure.Measure.{Measure}
+use Rattle.faults.specs.declared.Refusal.{Refusal}
 use Rattle.wire.specs.Records.{Part, num, span, Ans, found, refused, Parsed, parsed}
 
 -- how many bytes a number of that width has
@@ -26,17 +24,19 @@ len_of s = s.len
 abbrev pub span_part : Span → Part
 span_part s = span (start_of s) (len_of s)
 
--- a number that was read, and where it ends
-abbrev pub number_answer : NumberRead → Ans Parsed
-number_answer (NumberRead.Found n e) = parsed (num n ∷ []) e
-number_answer (NumberRead.No f) = refused f
+-- what a number, and what a span, keeps
+abbrev pub number_parts : ℕ → List Part
+number_parts n = num n ∷ []
 
--- bytes that were read, and where they end
-abbrev pub span_answer : SpanRead → Ans Parsed
-span_answer (SpanRead.Found s e) = parsed (span_part s ∷ []) e
-span_answer (SpanRead.No f) = refused f
+abbrev pub span_parts : Span → List Part
+span_parts s = span_part s ∷ []
+
+-- what was read, by its parts, and where it ends; or the refusal
+abbrev pub answer : {A : Type 0} → (parts : A → List Part) → Result (A × ℕ) Refusal → Ans Parsed
+answer parts (Ok (x, e)) = parsed (parts x) e
+answer parts (Err f) = refused f
 
 -- how many bytes there are, were read or were put
-abbrev pub measure_answer : Measure → Ans ℕ
-measure_answer (Measure.Size n) = found n
-measure_answer (Measure.No f) = refused f
+abbrev pub measure_answer : Result ℕ Refusal → Ans ℕ
+measure_answer (Ok n) = found n
+measure_answer (Err f) = refused f

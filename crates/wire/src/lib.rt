@@ -2,9 +2,11 @@
 // What is right is said in specs/: bytes, layouts, the grammar, reading, refusals, writing, later editions.
 #![tactic(auto)]
 
-pub mod choice;
-pub mod measure;
+pub mod arms;
+pub mod lend;
+pub mod number;
 pub mod read;
 pub mod span;
-pub mod widen;
+pub mod uint;
+pub mod unmarshal;
 pub mod width;

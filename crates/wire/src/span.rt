@@ -6,10 +6,9 @@ ghost use Rattle.wire.specs.Writing.{cut};
 ghost use Rattle.wire.specs.Fields.{part_of, size_of};
 ghost use Rattle.wire.specs.Places.{StandsAt, start_if};
 
-use crate::measure::Measure;
 use faults::Refusal;
 
-#[derive(Clone, Copy)]
+#[derive(Clone, Copy, Debug, PartialEq, Eq)]
 pub struct Span {
     start: usize,
     len: usize,
@@ -19,10 +18,7 @@ impl Span {
     pub fn new(start: usize, len: usize) -> Span
         ensures { span_part result ≡ span start len }
     {
-        Span {
-            start: start,
-            len: len,
-        }
+        Span { start, len }
     }
 
     pub fn start(self) -> usize
@@ -41,24 +37,22 @@ impl Span {
     fn inside(self, n: usize) -> bool
         ensures { result ≡ leb (start_of self + len_of self) n }
     {
-        let start = self.start;
-        let len = self.len;
-        if start <= n { len <= n - start } else { false }
+        self.start <= n && self.len <= n - self.start
     }
 
     // How long its part of s is, or that s has no such part; `place` is the one that a refusal names.
-    pub fn measure(self, s: &[u8], place: usize) -> Measure
+    pub fn measure(self, s: &[u8], place: usize) -> Result<usize, Refusal>
         ensures { measure_answer result ≡ size_of (cut s.now (start_of self) (len_of self) place) }
     {
         if self.inside(s.len()) {
-            return Measure::Size(self.len);
+            return Ok(self.len);
         }
-        Measure::No(Refusal::bad_span(place, self.len))
+        Err(Refusal::bad_span(place, self.len))
     }
 
     // Its part of s; where s has none, the empty one at its start.
     pub fn part<'a>(self, s: &'a [u8]) -> &'a [u8]
-        ensures result_value { result.now ≡ part_of (cut s.now (start_of self) (len_of self) 0) }
+        ensures part { result.now ≡ part_of (cut s.now (start_of self) (len_of self) 0) }
         ensures place { StandsAt s.entry result (start_if (cut s.now (start_of self) (len_of self) 0) (start_of self)) }
     {
         if self.inside(s.len()) {

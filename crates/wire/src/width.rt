@@ -1,13 +1,13 @@
-// The widths of the numbers on the wire. A width is an enum, so that no width is out of range.
+// The widths of the numbers on the wire, in bytes. A width is an enum, so that no width is out of range.
 ghost use Rattle.std.specs.Prelude.{◌≡◌};
 ghost use Rattle.wire.specs.Answers.{width_of};
 
-#[derive(Clone, Copy)]
+#[derive(Clone, Copy, Debug, PartialEq, Eq)]
 pub enum Width {
-    One,
-    Two,
-    Four,
-    Eight,
+    One = 1,
+    Two = 2,
+    Four = 4,
+    Eight = 8,
 }
 
 impl Width {
@@ -15,11 +15,6 @@ impl Width {
     pub fn bytes(self) -> usize
         ensures { result ≡ width_of self }
     {
-        match self {
-            Width::One => 1,
-            Width::Two => 2,
-            Width::Four => 4,
-            Width::Eight => 8,
-        }
+        self as usize
     }
 }

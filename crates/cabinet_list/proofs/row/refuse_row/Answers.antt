@@ -5,7 +5,7 @@ use Rattle.cabinet_list.proofs.Rows.{refusal_inside}
 use Rattle.cabinet_list.proofs.row.refuse_row.Goals as goal
 
 pub slice_bounds-line-end : goal.slice_bounds-line-end
-slice_bounds-line-end c = refusal_inside _ c.args.f (omega arith) c.fit_refusal_line-n.ensures
+slice_bounds-line-end c = refusal_inside _ c.args.refusal (omega arith) c.fit_answer-n.ensures
 
 pub slice_bounds-write_listing-end : goal.slice_bounds-write_listing-end
-slice_bounds-write_listing-end c = sym (length-take-le _ _ (refusal_inside _ c.args.f (omega arith) c.fit_refusal_line-n.ensures))
+slice_bounds-write_listing-end c = sym (length-take-le _ _ (refusal_inside _ c.args.refusal (omega arith) c.fit_answer-n.ensures))

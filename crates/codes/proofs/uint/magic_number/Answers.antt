@@ -1,15 +1,15 @@
 -- The test is the rule of the field. Assumes nothing.
-use Rattle.wire.proofs.Search.{finds, refuses}
-use Rattle.wire.specs.Answers.{number_answer}
+use Rattle.wire.specs.Answers.{number_parts}
+use Rattle.wire.proofs.Search.{finds, refuses, leaves}
 use Rattle.wire.proofs.Judged.{by_rule, judgements}
 use Rattle.codes.proofs.Values.{magic_allowed, magic_not}
 use Rattle.codes.proofs.uint.magic_number.Goals as goal
 
-pub returns-then-n-eq4283712327 : goal.returns-then-n-eq4283712327
-returns-then-n-eq4283712327 c = finds (search (by_rule number_answer, judgements, magic_allowed, magic_not))
+pub returns-then-n : goal.returns-then-n
+returns-then-n c = finds (search (by_rule, judgements, magic_allowed, c.in_ok-n.ensures))
 
-pub returns-else-n-eq4283712327 : goal.returns-else-n-eq4283712327
-returns-else-n-eq4283712327 c = refuses (search (by_rule number_answer, judgements, magic_allowed, magic_not))
+pub returns-else-n : goal.returns-else-n
+returns-else-n c = refuses (search (by_rule, judgements, magic_not, c.in_ok-n.ensures))
 
-pub returns-in-No : goal.returns-in-No
-returns-in-No c = refuses (search (by_rule number_answer, judgements))
+pub returns-in_err-n : goal.returns-in_err-n
+returns-in_err-n c = leaves number_parts _ _ c.from_residual.ensures (refuses (search (by_rule, judgements, c.in_err-n.ensures)))

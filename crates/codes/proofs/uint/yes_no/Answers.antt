@@ -1,15 +1,15 @@
 -- The test is the rule of the field. Assumes nothing.
-use Rattle.wire.proofs.Search.{finds, refuses}
-use Rattle.wire.specs.Answers.{number_answer}
+use Rattle.wire.specs.Answers.{number_parts}
+use Rattle.wire.proofs.Search.{finds, refuses, leaves}
 use Rattle.wire.proofs.Judged.{by_rule, judgements}
 use Rattle.codes.proofs.Values.{yes_no_allowed, yes_no_not}
 use Rattle.codes.proofs.uint.yes_no.Goals as goal
 
 pub returns-then-n-le1 : goal.returns-then-n-le1
-returns-then-n-le1 c = finds (search (by_rule number_answer, judgements, yes_no_allowed, yes_no_not))
+returns-then-n-le1 c = finds (search (by_rule, judgements, yes_no_allowed, c.in_ok-n.ensures))
 
 pub returns-else-n-le1 : goal.returns-else-n-le1
-returns-else-n-le1 c = refuses (search (by_rule number_answer, judgements, yes_no_allowed, yes_no_not))
+returns-else-n-le1 c = refuses (search (by_rule, judgements, yes_no_not, c.in_ok-n.ensures))
 
-pub returns-in-No : goal.returns-in-No
-returns-in-No c = refuses (search (by_rule number_answer, judgements))
+pub returns-in_err-n : goal.returns-in_err-n
+returns-in_err-n c = leaves number_parts _ _ c.from_residual.ensures (refuses (search (by_rule, judgements, c.in_err-n.ensures)))

@@ -1,91 +1,11 @@
--- Each number has its kind; any other is none. Assumes nothing.
-use mathlib.Core.Path.{ap, ◌∙◌}
-use Rattle.faults.specs.Faults.{bad_kind}
-use Rattle.format.specs.Kinds.{kinds, layout_of}
-use Rattle.format.proofs.Numbered.{none_of}
+-- The kind's own record is walked over; or there is no such kind. Assumes nothing.
+use mathlib.Core.Path.{sym}
+use Rattle.format.proofs.Numbered.{numbered_is_kind}
 use Rattle.copies.proofs.Walked.{kind_walked, no_kind_walked}
 use Rattle.copies.proofs.walk.walk.Goals as goal
 
-pub returns-in-1 : goal.returns-in-1
-unfolding layout_of kinds
-returns-in-1 c = search kind_walked
+pub returns-in-Ok : goal.returns-in-Ok
+returns-in-Ok c = kind_walked _ _ _ _ _ (sym c.in-Ok.ensures) (numbered_is_kind c.in-Ok.of) c.walk_by_kind.ensures
 
-pub returns-in-2 : goal.returns-in-2
-unfolding layout_of kinds
-returns-in-2 c = search kind_walked
-
-pub returns-in-3 : goal.returns-in-3
-unfolding layout_of kinds
-returns-in-3 c = search kind_walked
-
-pub returns-in-4 : goal.returns-in-4
-unfolding layout_of kinds
-returns-in-4 c = search kind_walked
-
-pub returns-in-5 : goal.returns-in-5
-unfolding layout_of kinds
-returns-in-5 c = search kind_walked
-
-pub returns-in-6 : goal.returns-in-6
-unfolding layout_of kinds
-returns-in-6 c = search kind_walked
-
-pub returns-in-7 : goal.returns-in-7
-unfolding layout_of kinds
-returns-in-7 c = search kind_walked
-
-pub returns-in-8 : goal.returns-in-8
-unfolding layout_of kinds
-returns-in-8 c = search kind_walked
-
-pub returns-in-9 : goal.returns-in-9
-unfolding layout_of kinds
-returns-in-9 c = search kind_walked
-
-pub returns-in-10 : goal.returns-in-10
-unfolding layout_of kinds
-returns-in-10 c = search kind_walked
-
-pub returns-in-11 : goal.returns-in-11
-unfolding layout_of kinds
-returns-in-11 c = search kind_walked
-
-pub returns-in-12 : goal.returns-in-12
-unfolding layout_of kinds
-returns-in-12 c = search kind_walked
-
-pub returns-in-13 : goal.returns-in-13
-unfolding layout_of kinds
-returns-in-13 c = search kind_walked
-
-pub returns-in-14 : goal.returns-in-14
-unfolding layout_of kinds
-returns-in-14 c = search kind_walked
-
-pub returns-in-15 : goal.returns-in-15
-unfolding layout_of kinds
-returns-in-15 c = search kind_walked
-
-pub returns-in-16 : goal.returns-in-16
-unfolding layout_of kinds
-returns-in-16 c = search kind_walked
-
-pub returns-in-17 : goal.returns-in-17
-unfolding layout_of kinds
-returns-in-17 c = search kind_walked
-
-pub returns-in-18 : goal.returns-in-18
-unfolding layout_of kinds
-returns-in-18 c = search kind_walked
-
-pub returns-in-19 : goal.returns-in-19
-unfolding layout_of kinds
-returns-in-19 c = search kind_walked
-
-pub returns-in-20 : goal.returns-in-20
-unfolding layout_of kinds
-returns-in-20 c = search kind_walked
-
-pub returns-in_default : goal.returns-in_default
-unfolding layout_of kinds
-returns-in_default c = no_kind_walked _ _ c.refusing.ensures (c.bad_kind.ensures ∙ ap bad_kind c.wide_byte.ensures) (none_of _ c.in_default.in_default-own.rest)
+pub returns-in-Err : goal.returns-in-Err
+returns-in-Err c = let (told, none) = c.in-Err.ensures in no_kind_walked _ _ c.refusing.ensures told none

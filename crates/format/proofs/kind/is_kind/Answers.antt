@@ -1,12 +1,7 @@
--- 0 is no kind; every other number is, up to the last. Assumes nothing.
-use mathlib.Core.Path.{sym}
-use native.Mathlib.Omega.{arith}
-use borrow.Author.Tests.{lt-ltb}
-use Rattle.format.proofs.Numbered.{how_many_kinds, outside}
+-- The number is decoded, if it is a kind's. Assumes nothing.
+use mathlib.Core.Path.{◌∙◌}
+use Rattle.format.proofs.Numbered.{decoded_is_kind}
 use Rattle.format.proofs.kind.is_kind.Goals as goal
 
-pub returns-then-kind-eq0 : goal.returns-then-kind-eq0
-returns-then-kind-eq0 c = sym (outside c.args.kind (λ h. omega arith))
-
 pub returns : goal.returns
-returns c = rw (how_many_kinds, lt-ltb 0 c.args.kind (omega arith))
+returns c = c.is_ok.ensures.value ∙ decoded_is_kind c.args.number c.try_from.result c.try_from.ensures

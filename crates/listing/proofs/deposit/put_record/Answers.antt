@@ -4,13 +4,13 @@ use Rattle.listing.proofs.Deposits.{judged_refused, refusal_listed, read_as, rec
 use Rattle.listing.proofs.deposit.put_record.Goals as goal
 
 pub overflow_sub-tail : goal.overflow_sub-tail
-overflow_sub-tail c = (read_as _ _ (bytes_of c.args.bytes.now (λ i. (c.type_inv.bytes i).fits)) c.judge.ensures c.in-Size.is).inside
+overflow_sub-tail c = (read_as _ _ (bytes_of c.args.bytes.now (λ i. (c.type_inv.bytes i).fits)) c.judge.ensures c.in-Ok.is).inside
 
-pub returns-in-Size : goal.returns-in-Size
-returns-in-Size c =
+pub returns-in-Ok : goal.returns-in-Ok
+returns-in-Ok c =
     let bytes = bytes_of c.args.bytes.now (λ i. (c.type_inv.bytes i).fits) in
-    let read = read_as _ _ bytes c.judge.ensures c.in-Size.is in
-    record_listed read bytes c.fit_read_line-first.ensures c.lining.ensures c.walk-lines.ensures
+    let read = read_as _ _ bytes c.judge.ensures c.in-Ok.is in
+    record_listed read bytes c.fit_answer-first.ensures c.lining.ensures c.walk-lines.ensures
 
-pub returns-in-No : goal.returns-in-No
-returns-in-No c = refusal_listed _ _ (judged_refused _ _ c.judge.ensures c.in-No.is) c.fit_refusal_line.ensures
+pub returns-in-Err : goal.returns-in-Err
+returns-in-Err c = refusal_listed _ _ (judged_refused _ _ c.judge.ensures c.in-Err.is) c.fit_answer.ensures

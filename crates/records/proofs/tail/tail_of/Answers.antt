@@ -12,10 +12,10 @@ pub returns-then-end-s : goal.returns-then-end-s
 returns-then-end-s c =
     let s = c.args.s.now in
     let e = c.args.end in
-    record { result_value = take_all (length s - e) (drop e s) (omega (arith, length-drop e s)); place = rw (le-leb e (length s) (omega arith)) (search rules) }
+    record { part = take_all (length s - e) (drop e s) (omega (arith, length-drop e s)); place = rw (le-leb e (length s) (omega arith)) (search rules) }
 
 pub returns : goal.returns
 returns c =
     let s = c.args.s.now in
     let e = c.args.end in
-    record { result_value = sym (drop_of_length-le s {i = e} (omega arith)); place = rw (lt-leb e (length s) (omega arith)) (search rules) }
+    record { part = sym (drop_of_length-le s {i = e} (omega arith)); place = rw (lt-leb e (length s) (omega arith)) (search rules) }

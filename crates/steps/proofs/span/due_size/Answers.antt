@@ -9,5 +9,5 @@ returns-then-t-lt-DIGEST c = search due_none
 pub returns-else-t-lt-DIGEST : goal.returns-else-t-lt-DIGEST
 returns-else-t-lt-DIGEST c = search due_size_of
 
-pub returns-in-Nothing : goal.returns-in-Nothing
-returns-in-Nothing c = search rules
+pub returns-in-None : goal.returns-in-None
+returns-in-None c = search rules

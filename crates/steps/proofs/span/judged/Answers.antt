@@ -2,8 +2,8 @@
 use Rattle.steps.proofs.Leaves.{judged_as}
 use Rattle.steps.proofs.span.judged.Goals as goal
 
-pub returns-in-Size : goal.returns-in-Size
-returns-in-Size c = search judged_as
+pub returns-in-Ok : goal.returns-in-Ok
+returns-in-Ok c = search judged_as
 
-pub returns-in-No : goal.returns-in-No
-returns-in-No c = search judged_as
+pub returns-in-Err : goal.returns-in-Err
+returns-in-Err c = search judged_as

@@ -7,10 +7,10 @@ use Rattle.steps.proofs.Leaves.{put_room, put_by, put_none}
 use Rattle.steps.proofs.span.put_part.Goals as goal
 
 pub overflow_add-result : goal.overflow_add-result
-overflow_add-result c = omega (arith, put_room (cut c.args.src.now (start_of c.args.span) (len_of c.args.span) c.args.at) c.args.at c.args.out.now _ c.in-Size.is c.put_span.ensures refl)
+overflow_add-result c = omega (arith, put_room (cut c.args.src.now (start_of c.args.span) (len_of c.args.span) c.args.at) c.args.at c.args.out.now _ c.in-Ok.is c.put_span.ensures refl)
 
-pub returns-in-Size : goal.returns-in-Size
-returns-in-Size c = search put_by
+pub returns-in-Ok : goal.returns-in-Ok
+returns-in-Ok c = search put_by
 
-pub returns-in-No : goal.returns-in-No
-returns-in-No c = search put_none
+pub returns-in-Err : goal.returns-in-Err
+returns-in-Err c = search put_none

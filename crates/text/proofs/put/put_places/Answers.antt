@@ -1,19 +1,14 @@
 -- A turn puts the last digit of those that are left. Assumes nothing.
+use Prim.Native.Nat.{◌-◌, ◌+◌}
 use native.Mathlib.Omega.{arith}
-use Rattle.text.proofs.Decimals.{placing_none, placing_more, placing_all}
+use mathlib.Core.Path.{◌≡◌, refl}
+use Rattle.wire.proofs.Filling.{filling_more}
 use Rattle.text.proofs.put.put_places.Goals as goal
 
-pub loop-i-init : goal.loop-i-init
-loop-i-init c = placing_none _ _ _ _
-
-pub bounds-out-i : goal.bounds-out-i
-bounds-out-i c = let p = c.loop-i.invariant.fills in omega (arith, p.most, p.same, c.requires)
-
 pub loop-i-preserved : goal.loop-i-preserved
-loop-i-preserved c = rw c.figure.ensures (placing_more c.loop-i.invariant c.requires c.loop-i-test.true)
-
-pub shape_of-out : goal.shape_of-out
-shape_of-out c = c.loop-i.invariant.fills.same
-
-pub returns : goal.returns
-returns c = placing_all c.loop-i.invariant c.loop-i-test.false
+loop-i-preserved c =
+    let at = c.args.at in
+    let i = c.loop-i.i in
+    let left : i - 1 - at ≡ i - at - 1 = omega arith in
+    let place : i - 1 ≡ at + (i - at - 1) = omega arith in
+    rw (left, place, c.figure.ensures) (filling_more _ (λ k. refl) (i - at) c.requires (omega arith) c.loop-i.invariant)

@@ -1,15 +1,16 @@
 -- A buffer is its length and then plain bytes, and each is read by its own leaf. Assumes nothing.
 use native.Mathlib.Omega.{arith}
-use mathlib.Core.Path.{sym, ap, ◌∙◌}
-use Rattle.wire.specs.Answers.{number_answer}
+use mathlib.Core.Path.{sym, ◌∙◌}
+use Rattle.wire.specs.Answers.{span_parts}
+use Rattle.wire.proofs.Search.{leaves}
 use Rattle.wire.proofs.Leaves.{buffer_body, buffer_long, buffer_short}
 use Rattle.wire.proofs.read.buffer.Goals as goal
 
+pub returns-in_err-n : goal.returns-in_err-n
+returns-in_err-n c = leaves span_parts _ _ c.from_residual.ensures (sym (buffer_short _ _ _ _ _ c.in_err-n.ensures))
+
 pub returns-then-len-limit : goal.returns-then-len-limit
-returns-then-len-limit c = c.plain.ensures ∙ sym (buffer_body _ _ _ _ _ (ap number_answer (sym c.in-Found.is) ∙ c.number.ensures) (omega arith))
+returns-then-len-limit c = c.plain.ensures ∙ sym (buffer_body _ _ _ _ _ c.in_ok-n.ensures (omega arith))
 
-pub returns-else-len-limit : goal.returns-else-len-limit
-returns-else-len-limit c = rw c.too_long.ensures (sym (buffer_long _ _ _ _ _ (ap number_answer (sym c.in-Found.is) ∙ c.number.ensures) (omega arith)))
-
-pub returns-in-No : goal.returns-in-No
-returns-in-No c = sym (buffer_short _ _ _ _ _ (ap number_answer (sym c.in-No.is) ∙ c.number.ensures))
+pub returns : goal.returns
+returns c = rw c.too_long.ensures (sym (buffer_long _ _ _ _ _ c.in_ok-n.ensures (omega arith)))

@@ -1,73 +1,73 @@
 -- The selector's code chooses the arm that the table has for it, or none. Assumes nothing.
-use Rattle.wire.proofs.Search.{finds, refuses, by_whole, in_arm, no_arm_due, rests}
+use Rattle.wire.proofs.Search.{finds, refuses, by_whole, in_arm, no_arm_due, rests, leaves}
 use Rattle.format.specs.Kinds.{tpmu_attest_table, tpmu_attest_arm, tpmu_attest_body, tpmu_attest}
 use Rattle.codes.proofs.Choices.{none_chosen}
-use Rattle.attest.specs.Answers.{tpms_certify_info_answer, tpms_creation_info_answer, tpms_quote_info_answer, tpms_command_audit_info_answer, tpms_session_audit_info_answer, tpms_time_attest_info_answer, tpms_nv_certify_info_answer, tpms_nv_digest_certify_info_answer}
+use Rattle.attest.specs.Parts.{tpmu_attest_parts}
 use Rattle.attest.proofs.tpmu.TpmuAttest.unmarshal_tagged.Goals as goal
 
-pub returns-in-Found : goal.returns-in-Found
+pub returns-in_err-x-in-AttestCertify : goal.returns-in_err-x-in-AttestCertify
 unfolding tpmu_attest tpmu_attest_arm
-returns-in-Found c = finds (search (in_arm tpmu_attest, by_whole tpms_certify_info_answer, rests))
+returns-in_err-x-in-AttestCertify c = leaves tpmu_attest_parts _ _ c.from_residual.ensures (refuses (search (in_arm tpmu_attest, by_whole, c.in_err-x-in-AttestCertify.ensures, rests)))
 
-pub returns-in-No : goal.returns-in-No
+pub returns-in_ok-x-in-AttestCertify : goal.returns-in_ok-x-in-AttestCertify
 unfolding tpmu_attest tpmu_attest_arm
-returns-in-No c = refuses (search (in_arm tpmu_attest, by_whole tpms_certify_info_answer, rests))
+returns-in_ok-x-in-AttestCertify c = finds (search (in_arm tpmu_attest, by_whole, c.in_ok-x-in-AttestCertify.ensures, rests))
 
-pub returns-in-Found-unmarshal : goal.returns-in-Found-unmarshal
+pub returns-in_err-x-in-AttestCreation : goal.returns-in_err-x-in-AttestCreation
 unfolding tpmu_attest tpmu_attest_arm
-returns-in-Found-unmarshal c = finds (search (in_arm tpmu_attest, by_whole tpms_creation_info_answer, rests))
+returns-in_err-x-in-AttestCreation c = leaves tpmu_attest_parts _ _ c.from_residual-in_err-x-in-AttestCreation.ensures (refuses (search (in_arm tpmu_attest, by_whole, c.in_err-x-in-AttestCreation.ensures, rests)))
 
-pub returns-in-No-unmarshal : goal.returns-in-No-unmarshal
+pub returns-in_ok-x-in-AttestCreation : goal.returns-in_ok-x-in-AttestCreation
 unfolding tpmu_attest tpmu_attest_arm
-returns-in-No-unmarshal c = refuses (search (in_arm tpmu_attest, by_whole tpms_creation_info_answer, rests))
+returns-in_ok-x-in-AttestCreation c = finds (search (in_arm tpmu_attest, by_whole, c.in_ok-x-in-AttestCreation.ensures, rests))
 
-pub returns-in-Found-unmarshal-2 : goal.returns-in-Found-unmarshal-2
+pub returns-in_err-x-in-AttestQuote : goal.returns-in_err-x-in-AttestQuote
 unfolding tpmu_attest tpmu_attest_arm
-returns-in-Found-unmarshal-2 c = finds (search (in_arm tpmu_attest, by_whole tpms_quote_info_answer, rests))
+returns-in_err-x-in-AttestQuote c = leaves tpmu_attest_parts _ _ c.from_residual-in_err-x-in-AttestQuote.ensures (refuses (search (in_arm tpmu_attest, by_whole, c.in_err-x-in-AttestQuote.ensures, rests)))
 
-pub returns-in-No-unmarshal-2 : goal.returns-in-No-unmarshal-2
+pub returns-in_ok-x-in-AttestQuote : goal.returns-in_ok-x-in-AttestQuote
 unfolding tpmu_attest tpmu_attest_arm
-returns-in-No-unmarshal-2 c = refuses (search (in_arm tpmu_attest, by_whole tpms_quote_info_answer, rests))
+returns-in_ok-x-in-AttestQuote c = finds (search (in_arm tpmu_attest, by_whole, c.in_ok-x-in-AttestQuote.ensures, rests))
 
-pub returns-in-Found-unmarshal-3 : goal.returns-in-Found-unmarshal-3
+pub returns-in_err-x-in-AttestCommandAudit : goal.returns-in_err-x-in-AttestCommandAudit
 unfolding tpmu_attest tpmu_attest_arm
-returns-in-Found-unmarshal-3 c = finds (search (in_arm tpmu_attest, by_whole tpms_command_audit_info_answer, rests))
+returns-in_err-x-in-AttestCommandAudit c = leaves tpmu_attest_parts _ _ c.from_residual-in_err-x-in-AttestCommandAudit.ensures (refuses (search (in_arm tpmu_attest, by_whole, c.in_err-x-in-AttestCommandAudit.ensures, rests)))
 
-pub returns-in-No-unmarshal-3 : goal.returns-in-No-unmarshal-3
+pub returns-in_ok-x-in-AttestCommandAudit : goal.returns-in_ok-x-in-AttestCommandAudit
 unfolding tpmu_attest tpmu_attest_arm
-returns-in-No-unmarshal-3 c = refuses (search (in_arm tpmu_attest, by_whole tpms_command_audit_info_answer, rests))
+returns-in_ok-x-in-AttestCommandAudit c = finds (search (in_arm tpmu_attest, by_whole, c.in_ok-x-in-AttestCommandAudit.ensures, rests))
 
-pub returns-in-Found-unmarshal-4 : goal.returns-in-Found-unmarshal-4
+pub returns-in_err-x-in-AttestSessionAudit : goal.returns-in_err-x-in-AttestSessionAudit
 unfolding tpmu_attest tpmu_attest_arm
-returns-in-Found-unmarshal-4 c = finds (search (in_arm tpmu_attest, by_whole tpms_session_audit_info_answer, rests))
+returns-in_err-x-in-AttestSessionAudit c = leaves tpmu_attest_parts _ _ c.from_residual-in_err-x-in-AttestSessionAudit.ensures (refuses (search (in_arm tpmu_attest, by_whole, c.in_err-x-in-AttestSessionAudit.ensures, rests)))
 
-pub returns-in-No-unmarshal-4 : goal.returns-in-No-unmarshal-4
+pub returns-in_ok-x-in-AttestSessionAudit : goal.returns-in_ok-x-in-AttestSessionAudit
 unfolding tpmu_attest tpmu_attest_arm
-returns-in-No-unmarshal-4 c = refuses (search (in_arm tpmu_attest, by_whole tpms_session_audit_info_answer, rests))
+returns-in_ok-x-in-AttestSessionAudit c = finds (search (in_arm tpmu_attest, by_whole, c.in_ok-x-in-AttestSessionAudit.ensures, rests))
 
-pub returns-in-Found-unmarshal-5 : goal.returns-in-Found-unmarshal-5
+pub returns-in_err-x-in-AttestTime : goal.returns-in_err-x-in-AttestTime
 unfolding tpmu_attest tpmu_attest_arm
-returns-in-Found-unmarshal-5 c = finds (search (in_arm tpmu_attest, by_whole tpms_time_attest_info_answer, rests))
+returns-in_err-x-in-AttestTime c = leaves tpmu_attest_parts _ _ c.from_residual-in_err-x-in-AttestTime.ensures (refuses (search (in_arm tpmu_attest, by_whole, c.in_err-x-in-AttestTime.ensures, rests)))
 
-pub returns-in-No-unmarshal-5 : goal.returns-in-No-unmarshal-5
+pub returns-in_ok-x-in-AttestTime : goal.returns-in_ok-x-in-AttestTime
 unfolding tpmu_attest tpmu_attest_arm
-returns-in-No-unmarshal-5 c = refuses (search (in_arm tpmu_attest, by_whole tpms_time_attest_info_answer, rests))
+returns-in_ok-x-in-AttestTime c = finds (search (in_arm tpmu_attest, by_whole, c.in_ok-x-in-AttestTime.ensures, rests))
 
-pub returns-in-Found-unmarshal-6 : goal.returns-in-Found-unmarshal-6
+pub returns-in_err-x-in-AttestNv : goal.returns-in_err-x-in-AttestNv
 unfolding tpmu_attest tpmu_attest_arm
-returns-in-Found-unmarshal-6 c = finds (search (in_arm tpmu_attest, by_whole tpms_nv_certify_info_answer, rests))
+returns-in_err-x-in-AttestNv c = leaves tpmu_attest_parts _ _ c.from_residual-in_err-x-in-AttestNv.ensures (refuses (search (in_arm tpmu_attest, by_whole, c.in_err-x-in-AttestNv.ensures, rests)))
 
-pub returns-in-No-unmarshal-6 : goal.returns-in-No-unmarshal-6
+pub returns-in_ok-x-in-AttestNv : goal.returns-in_ok-x-in-AttestNv
 unfolding tpmu_attest tpmu_attest_arm
-returns-in-No-unmarshal-6 c = refuses (search (in_arm tpmu_attest, by_whole tpms_nv_certify_info_answer, rests))
+returns-in_ok-x-in-AttestNv c = finds (search (in_arm tpmu_attest, by_whole, c.in_ok-x-in-AttestNv.ensures, rests))
 
-pub returns-in-Found-unmarshal-7 : goal.returns-in-Found-unmarshal-7
+pub returns-in_err-x-in-AttestNvDigest : goal.returns-in_err-x-in-AttestNvDigest
 unfolding tpmu_attest tpmu_attest_arm
-returns-in-Found-unmarshal-7 c = finds (search (in_arm tpmu_attest, by_whole tpms_nv_digest_certify_info_answer, rests))
+returns-in_err-x-in-AttestNvDigest c = leaves tpmu_attest_parts _ _ c.from_residual-in_err-x-in-AttestNvDigest.ensures (refuses (search (in_arm tpmu_attest, by_whole, c.in_err-x-in-AttestNvDigest.ensures, rests)))
 
-pub returns-in-No-unmarshal-7 : goal.returns-in-No-unmarshal-7
+pub returns-in_ok-x-in-AttestNvDigest : goal.returns-in_ok-x-in-AttestNvDigest
 unfolding tpmu_attest tpmu_attest_arm
-returns-in-No-unmarshal-7 c = refuses (search (in_arm tpmu_attest, by_whole tpms_nv_digest_certify_info_answer, rests))
+returns-in_ok-x-in-AttestNvDigest c = finds (search (in_arm tpmu_attest, by_whole, c.in_ok-x-in-AttestNvDigest.ensures, rests))
 
 pub returns-in_default : goal.returns-in_default
 unfolding tpmu_attest tpmu_attest_arm

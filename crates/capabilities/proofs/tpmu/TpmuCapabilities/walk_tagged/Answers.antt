@@ -8,5 +8,5 @@ use Rattle.capabilities.proofs.tpmu.TpmuCapabilities.walk_tagged.Goals as goal
 
 pub returns : goal.returns
 unfolding tpmu_capabilities
-returns c = by_arm_lists tpmu_capabilities_parts tpmu_capabilities_lists tpmu_capabilities_arm (λ t. tpmu_capabilities_body t) _ c.args.self c.args.self _ _ _ _ _ _ 2 _ refl c.capabilities_arm.ensures c.matches_tag.ensures c.due_by_capability-v.ensures refl refl
+returns c = by_arm_lists tpmu_capabilities_parts tpmu_capabilities_lists tpmu_capabilities_arm (λ t. tpmu_capabilities_body t) _ c.args.self c.args.self _ _ _ _ _ _ 2 _ refl c.capabilities_arm.ensures c.matches_tag.ensures c.due-v.ensures refl refl
     (arm_walks c.args.self _ _ _ c.list_of.ensures c.items.ensures c.list.ensures)

@@ -1,45 +1,45 @@
 -- The selector's code chooses the arm that the table has for it, or none. Assumes nothing.
-use Rattle.wire.proofs.Search.{finds, refuses, by_whole, in_arm, no_arm_due, rests}
+use Rattle.wire.proofs.Search.{finds, refuses, by_whole, in_arm, no_arm_due, rests, leaves}
 use Rattle.format.specs.Kinds.{tpmu_public_parms_table, tpmu_public_parms_arm, tpmu_public_parms_body, tpmu_public_parms}
 use Rattle.codes.proofs.Choices.{none_chosen}
-use Rattle.parameters.specs.Answers.{tpms_keyedhash_parms_answer, tpms_symcipher_parms_answer, tpms_rsa_parms_answer, tpms_ecc_parms_answer}
+use Rattle.parameters.specs.Parts.{tpmu_public_parms_parts}
 use Rattle.parameters.proofs.tpmu.TpmuPublicParms.unmarshal_tagged.Goals as goal
 
-pub returns-in-Found : goal.returns-in-Found
+pub returns-in_err-x-in-KeyedHash : goal.returns-in_err-x-in-KeyedHash
 unfolding tpmu_public_parms tpmu_public_parms_arm
-returns-in-Found c = finds (search (in_arm tpmu_public_parms, by_whole tpms_keyedhash_parms_answer, rests))
+returns-in_err-x-in-KeyedHash c = leaves tpmu_public_parms_parts _ _ c.from_residual.ensures (refuses (search (in_arm tpmu_public_parms, by_whole, c.in_err-x-in-KeyedHash.ensures, rests)))
 
-pub returns-in-No : goal.returns-in-No
+pub returns-in_ok-x-in-KeyedHash : goal.returns-in_ok-x-in-KeyedHash
 unfolding tpmu_public_parms tpmu_public_parms_arm
-returns-in-No c = refuses (search (in_arm tpmu_public_parms, by_whole tpms_keyedhash_parms_answer, rests))
+returns-in_ok-x-in-KeyedHash c = finds (search (in_arm tpmu_public_parms, by_whole, c.in_ok-x-in-KeyedHash.ensures, rests))
 
-pub returns-in-Found-unmarshal : goal.returns-in-Found-unmarshal
+pub returns-in_err-x-in-SymCipher : goal.returns-in_err-x-in-SymCipher
 unfolding tpmu_public_parms tpmu_public_parms_arm
-returns-in-Found-unmarshal c = finds (search (in_arm tpmu_public_parms, by_whole tpms_symcipher_parms_answer, rests))
+returns-in_err-x-in-SymCipher c = leaves tpmu_public_parms_parts _ _ c.from_residual-in_err-x-in-SymCipher.ensures (refuses (search (in_arm tpmu_public_parms, by_whole, c.in_err-x-in-SymCipher.ensures, rests)))
 
-pub returns-in-No-unmarshal : goal.returns-in-No-unmarshal
+pub returns-in_ok-x-in-SymCipher : goal.returns-in_ok-x-in-SymCipher
 unfolding tpmu_public_parms tpmu_public_parms_arm
-returns-in-No-unmarshal c = refuses (search (in_arm tpmu_public_parms, by_whole tpms_symcipher_parms_answer, rests))
+returns-in_ok-x-in-SymCipher c = finds (search (in_arm tpmu_public_parms, by_whole, c.in_ok-x-in-SymCipher.ensures, rests))
 
-pub returns-in-Found-unmarshal-2 : goal.returns-in-Found-unmarshal-2
+pub returns-in_err-x-in-Rsa : goal.returns-in_err-x-in-Rsa
 unfolding tpmu_public_parms tpmu_public_parms_arm
-returns-in-Found-unmarshal-2 c = finds (search (in_arm tpmu_public_parms, by_whole tpms_rsa_parms_answer, rests))
+returns-in_err-x-in-Rsa c = leaves tpmu_public_parms_parts _ _ c.from_residual-in_err-x-in-Rsa.ensures (refuses (search (in_arm tpmu_public_parms, by_whole, c.in_err-x-in-Rsa.ensures, rests)))
 
-pub returns-in-No-unmarshal-2 : goal.returns-in-No-unmarshal-2
+pub returns-in_ok-x-in-Rsa : goal.returns-in_ok-x-in-Rsa
 unfolding tpmu_public_parms tpmu_public_parms_arm
-returns-in-No-unmarshal-2 c = refuses (search (in_arm tpmu_public_parms, by_whole tpms_rsa_parms_answer, rests))
+returns-in_ok-x-in-Rsa c = finds (search (in_arm tpmu_public_parms, by_whole, c.in_ok-x-in-Rsa.ensures, rests))
 
-pub returns-in-Found-unmarshal-3 : goal.returns-in-Found-unmarshal-3
+pub returns-in_err-x-in-Ecc : goal.returns-in_err-x-in-Ecc
 unfolding tpmu_public_parms tpmu_public_parms_arm
-returns-in-Found-unmarshal-3 c = finds (search (in_arm tpmu_public_parms, by_whole tpms_ecc_parms_answer, rests))
+returns-in_err-x-in-Ecc c = leaves tpmu_public_parms_parts _ _ c.from_residual-in_err-x-in-Ecc.ensures (refuses (search (in_arm tpmu_public_parms, by_whole, c.in_err-x-in-Ecc.ensures, rests)))
 
-pub returns-in-No-unmarshal-3 : goal.returns-in-No-unmarshal-3
+pub returns-in_ok-x-in-Ecc : goal.returns-in_ok-x-in-Ecc
 unfolding tpmu_public_parms tpmu_public_parms_arm
-returns-in-No-unmarshal-3 c = refuses (search (in_arm tpmu_public_parms, by_whole tpms_ecc_parms_answer, rests))
+returns-in_ok-x-in-Ecc c = finds (search (in_arm tpmu_public_parms, by_whole, c.in_ok-x-in-Ecc.ensures, rests))
 
-pub returns-in-16 : goal.returns-in-16
+pub returns-in-Null : goal.returns-in-Null
 unfolding tpmu_public_parms tpmu_public_parms_arm
-returns-in-16 c = finds (search (in_arm tpmu_public_parms, rests))
+returns-in-Null c = finds (search (in_arm tpmu_public_parms, rests))
 
 pub returns-in_default : goal.returns-in_default
 unfolding tpmu_public_parms tpmu_public_parms_arm

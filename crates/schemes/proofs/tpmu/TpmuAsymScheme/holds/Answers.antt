@@ -5,7 +5,7 @@ use Rattle.schemes.specs.Parts.{tpmu_asym_scheme_parts}
 use Rattle.schemes.proofs.tpmu.TpmuAsymScheme.holds.Goals as goal
 
 pub returns-in-Hash : goal.returns-in-Hash
-returns-in-Hash c = is_arm_lem tpmu_asym_scheme_parts {c = c.args.chosen} c.in-Hash.is refl c.is.ensures
+returns-in-Hash c = is_arm_lem tpmu_asym_scheme_parts {c = c.args.chosen} c.in-Hash.is refl c.is_arm.ensures
 
 pub returns-in-Ecdaa : goal.returns-in-Ecdaa
 returns-in-Ecdaa c = search (is_arm_lem tpmu_asym_scheme_parts)

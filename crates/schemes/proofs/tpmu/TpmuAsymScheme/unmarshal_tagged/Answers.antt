@@ -1,31 +1,33 @@
 -- The arm that the selector chooses is empty, or holds a hash code and a count, or a hash code alone; or there is none. Assumes nothing.
-use Rattle.wire.proofs.Search.{finds, refuses, via, by_whole, chosen, no_arm_due, rests}
+use Rattle.wire.proofs.Search.{finds, refuses, leaves, via, by_whole, chosen, no_arm_due, rests}
 use Rattle.codes.specs.Codes.{null, ecdaa}
 use Rattle.format.specs.Kinds.{tpmu_asym_scheme_arm, hash, tpmu_asym_scheme_body, tpmu_asym_scheme}
-use Rattle.schemes.specs.Answers.{tpms_scheme_hash_answer, tpms_scheme_ecdaa_answer}
+use Rattle.schemes.specs.Parts.{tpmu_asym_scheme_parts}
 use Rattle.schemes.proofs.Arms.{asym_hash}
 use Rattle.schemes.proofs.tpmu.TpmuAsymScheme.unmarshal_tagged.Goals as goal
 
-pub returns-in-16 : goal.returns-in-16
+pub returns-in-Null : goal.returns-in-Null
 unfolding tpmu_asym_scheme
-returns-in-16 c = finds (search (chosen tpmu_asym_scheme_arm tpmu_asym_scheme_body null, rests))
+returns-in-Null c = finds (search (chosen tpmu_asym_scheme_arm tpmu_asym_scheme_body null, rests))
 
-pub returns-in-Found : goal.returns-in-Found
+pub returns-in_ok-x-in-Ecdaa : goal.returns-in_ok-x-in-Ecdaa
 unfolding tpmu_asym_scheme
-returns-in-Found c = finds (search (chosen tpmu_asym_scheme_arm tpmu_asym_scheme_body ecdaa, by_whole tpms_scheme_ecdaa_answer, rests))
+returns-in_ok-x-in-Ecdaa c = finds (search (chosen tpmu_asym_scheme_arm tpmu_asym_scheme_body ecdaa, by_whole, c.in_ok-x-in-Ecdaa.ensures, rests))
 
-pub returns-in-No : goal.returns-in-No
+pub returns-in_err-x-in-Ecdaa : goal.returns-in_err-x-in-Ecdaa
 unfolding tpmu_asym_scheme
-returns-in-No c = refuses (search (chosen tpmu_asym_scheme_arm tpmu_asym_scheme_body ecdaa, by_whole tpms_scheme_ecdaa_answer, rests))
+returns-in_err-x-in-Ecdaa c = leaves tpmu_asym_scheme_parts _ _ c.from_residual.ensures (refuses (search (chosen tpmu_asym_scheme_arm tpmu_asym_scheme_body ecdaa, by_whole, c.in_err-x-in-Ecdaa.ensures, rests)))
 
-pub returns-in-Found-unmarshal : goal.returns-in-Found-unmarshal
+pub returns-in_ok-x-in_default : goal.returns-in_ok-x-in_default
 unfolding tpmu_asym_scheme
-returns-in-Found-unmarshal c = finds (search (chosen tpmu_asym_scheme_arm tpmu_asym_scheme_body hash, asym_hash, by_whole tpms_scheme_hash_answer, rests))
+returns-in_ok-x-in_default c = finds (search (chosen tpmu_asym_scheme_arm tpmu_asym_scheme_body hash, asym_hash, by_whole, c.in_ok-x-in_default.ensures, rests))
 
-pub returns-in-No-unmarshal : goal.returns-in-No-unmarshal
+pub returns-in_err-x-in_default : goal.returns-in_err-x-in_default
 unfolding tpmu_asym_scheme
-returns-in-No-unmarshal c = refuses (search (chosen tpmu_asym_scheme_arm tpmu_asym_scheme_body hash, asym_hash, by_whole tpms_scheme_hash_answer, rests))
+returns-in_err-x-in_default c =
+    leaves tpmu_asym_scheme_parts _ _ c.from_residual-in_err-x-in_default.ensures
+    (refuses (search (chosen tpmu_asym_scheme_arm tpmu_asym_scheme_body hash, asym_hash, by_whole, c.in_err-x-in_default.ensures, rests)))
 
-pub returns-in-Nothing : goal.returns-in-Nothing
+pub returns-in-None : goal.returns-in-None
 unfolding tpmu_asym_scheme
-returns-in-Nothing c = search (no_arm_due tpmu_asym_scheme_arm tpmu_asym_scheme_body, via)
+returns-in-None c = search (no_arm_due tpmu_asym_scheme_arm tpmu_asym_scheme_body, via)

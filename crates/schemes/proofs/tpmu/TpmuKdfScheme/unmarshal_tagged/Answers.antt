@@ -1,45 +1,45 @@
 -- The selector's code chooses the arm that the table has for it, or none. Assumes nothing.
-use Rattle.wire.proofs.Search.{finds, refuses, by_whole, in_arm, no_arm_due, rests}
+use Rattle.wire.proofs.Search.{finds, refuses, by_whole, in_arm, no_arm_due, rests, leaves}
 use Rattle.format.specs.Kinds.{tpmu_kdf_scheme_table, tpmu_kdf_scheme_arm, tpmu_kdf_scheme_body, tpmu_kdf_scheme}
 use Rattle.codes.proofs.Choices.{none_chosen}
-use Rattle.schemes.specs.Answers.{tpms_scheme_hash_answer}
+use Rattle.schemes.specs.Parts.{tpmu_kdf_scheme_parts}
 use Rattle.schemes.proofs.tpmu.TpmuKdfScheme.unmarshal_tagged.Goals as goal
 
-pub returns-in-Found : goal.returns-in-Found
+pub returns-in_err-x-in-Mgf1 : goal.returns-in_err-x-in-Mgf1
 unfolding tpmu_kdf_scheme tpmu_kdf_scheme_arm
-returns-in-Found c = finds (search (in_arm tpmu_kdf_scheme, by_whole tpms_scheme_hash_answer, rests))
+returns-in_err-x-in-Mgf1 c = leaves tpmu_kdf_scheme_parts _ _ c.from_residual.ensures (refuses (search (in_arm tpmu_kdf_scheme, by_whole, c.in_err-x-in-Mgf1.ensures, rests)))
 
-pub returns-in-No : goal.returns-in-No
+pub returns-in_ok-x-in-Mgf1 : goal.returns-in_ok-x-in-Mgf1
 unfolding tpmu_kdf_scheme tpmu_kdf_scheme_arm
-returns-in-No c = refuses (search (in_arm tpmu_kdf_scheme, by_whole tpms_scheme_hash_answer, rests))
+returns-in_ok-x-in-Mgf1 c = finds (search (in_arm tpmu_kdf_scheme, by_whole, c.in_ok-x-in-Mgf1.ensures, rests))
 
-pub returns-in-Found-unmarshal : goal.returns-in-Found-unmarshal
+pub returns-in_err-x-in-Kdf1Sp800_56A : goal.returns-in_err-x-in-Kdf1Sp800_56A
 unfolding tpmu_kdf_scheme tpmu_kdf_scheme_arm
-returns-in-Found-unmarshal c = finds (search (in_arm tpmu_kdf_scheme, by_whole tpms_scheme_hash_answer, rests))
+returns-in_err-x-in-Kdf1Sp800_56A c = leaves tpmu_kdf_scheme_parts _ _ c.from_residual-in_err-x-in-Kdf1Sp800_56A.ensures (refuses (search (in_arm tpmu_kdf_scheme, by_whole, c.in_err-x-in-Kdf1Sp800_56A.ensures, rests)))
 
-pub returns-in-No-unmarshal : goal.returns-in-No-unmarshal
+pub returns-in_ok-x-in-Kdf1Sp800_56A : goal.returns-in_ok-x-in-Kdf1Sp800_56A
 unfolding tpmu_kdf_scheme tpmu_kdf_scheme_arm
-returns-in-No-unmarshal c = refuses (search (in_arm tpmu_kdf_scheme, by_whole tpms_scheme_hash_answer, rests))
+returns-in_ok-x-in-Kdf1Sp800_56A c = finds (search (in_arm tpmu_kdf_scheme, by_whole, c.in_ok-x-in-Kdf1Sp800_56A.ensures, rests))
 
-pub returns-in-Found-unmarshal-2 : goal.returns-in-Found-unmarshal-2
+pub returns-in_err-x-in-Kdf2 : goal.returns-in_err-x-in-Kdf2
 unfolding tpmu_kdf_scheme tpmu_kdf_scheme_arm
-returns-in-Found-unmarshal-2 c = finds (search (in_arm tpmu_kdf_scheme, by_whole tpms_scheme_hash_answer, rests))
+returns-in_err-x-in-Kdf2 c = leaves tpmu_kdf_scheme_parts _ _ c.from_residual-in_err-x-in-Kdf2.ensures (refuses (search (in_arm tpmu_kdf_scheme, by_whole, c.in_err-x-in-Kdf2.ensures, rests)))
 
-pub returns-in-No-unmarshal-2 : goal.returns-in-No-unmarshal-2
+pub returns-in_ok-x-in-Kdf2 : goal.returns-in_ok-x-in-Kdf2
 unfolding tpmu_kdf_scheme tpmu_kdf_scheme_arm
-returns-in-No-unmarshal-2 c = refuses (search (in_arm tpmu_kdf_scheme, by_whole tpms_scheme_hash_answer, rests))
+returns-in_ok-x-in-Kdf2 c = finds (search (in_arm tpmu_kdf_scheme, by_whole, c.in_ok-x-in-Kdf2.ensures, rests))
 
-pub returns-in-Found-unmarshal-3 : goal.returns-in-Found-unmarshal-3
+pub returns-in_err-x-in-Kdf1Sp800_108 : goal.returns-in_err-x-in-Kdf1Sp800_108
 unfolding tpmu_kdf_scheme tpmu_kdf_scheme_arm
-returns-in-Found-unmarshal-3 c = finds (search (in_arm tpmu_kdf_scheme, by_whole tpms_scheme_hash_answer, rests))
+returns-in_err-x-in-Kdf1Sp800_108 c = leaves tpmu_kdf_scheme_parts _ _ c.from_residual-in_err-x-in-Kdf1Sp800_108.ensures (refuses (search (in_arm tpmu_kdf_scheme, by_whole, c.in_err-x-in-Kdf1Sp800_108.ensures, rests)))
 
-pub returns-in-No-unmarshal-3 : goal.returns-in-No-unmarshal-3
+pub returns-in_ok-x-in-Kdf1Sp800_108 : goal.returns-in_ok-x-in-Kdf1Sp800_108
 unfolding tpmu_kdf_scheme tpmu_kdf_scheme_arm
-returns-in-No-unmarshal-3 c = refuses (search (in_arm tpmu_kdf_scheme, by_whole tpms_scheme_hash_answer, rests))
+returns-in_ok-x-in-Kdf1Sp800_108 c = finds (search (in_arm tpmu_kdf_scheme, by_whole, c.in_ok-x-in-Kdf1Sp800_108.ensures, rests))
 
-pub returns-in-16 : goal.returns-in-16
+pub returns-in-Null : goal.returns-in-Null
 unfolding tpmu_kdf_scheme tpmu_kdf_scheme_arm
-returns-in-16 c = finds (search (in_arm tpmu_kdf_scheme, rests))
+returns-in-Null c = finds (search (in_arm tpmu_kdf_scheme, rests))
 
 pub returns-in_default : goal.returns-in_default
 unfolding tpmu_kdf_scheme tpmu_kdf_scheme_arm

@@ -1,29 +1,29 @@
 -- The selector's code chooses the arm that the table has for it, or none. Assumes nothing.
-use Rattle.wire.proofs.Search.{finds, refuses, by_whole, in_arm, no_arm_due, rests}
+use Rattle.wire.proofs.Search.{finds, refuses, by_whole, in_arm, no_arm_due, rests, leaves}
 use Rattle.format.specs.Kinds.{tpmu_keyedhash_scheme_table, tpmu_keyedhash_scheme_arm, tpmu_keyedhash_scheme_body, tpmu_keyedhash_scheme}
 use Rattle.codes.proofs.Choices.{none_chosen}
-use Rattle.schemes.specs.Answers.{tpms_scheme_hash_answer, tpms_scheme_xor_answer}
+use Rattle.schemes.specs.Parts.{tpmu_keyedhash_scheme_parts}
 use Rattle.schemes.proofs.tpmu.TpmuKeyedhashScheme.unmarshal_tagged.Goals as goal
 
-pub returns-in-Found : goal.returns-in-Found
+pub returns-in_err-x-in-Hmac : goal.returns-in_err-x-in-Hmac
 unfolding tpmu_keyedhash_scheme tpmu_keyedhash_scheme_arm
-returns-in-Found c = finds (search (in_arm tpmu_keyedhash_scheme, by_whole tpms_scheme_hash_answer, rests))
+returns-in_err-x-in-Hmac c = leaves tpmu_keyedhash_scheme_parts _ _ c.from_residual.ensures (refuses (search (in_arm tpmu_keyedhash_scheme, by_whole, c.in_err-x-in-Hmac.ensures, rests)))
 
-pub returns-in-No : goal.returns-in-No
+pub returns-in_ok-x-in-Hmac : goal.returns-in_ok-x-in-Hmac
 unfolding tpmu_keyedhash_scheme tpmu_keyedhash_scheme_arm
-returns-in-No c = refuses (search (in_arm tpmu_keyedhash_scheme, by_whole tpms_scheme_hash_answer, rests))
+returns-in_ok-x-in-Hmac c = finds (search (in_arm tpmu_keyedhash_scheme, by_whole, c.in_ok-x-in-Hmac.ensures, rests))
 
-pub returns-in-Found-unmarshal : goal.returns-in-Found-unmarshal
+pub returns-in_err-x-in-Xor : goal.returns-in_err-x-in-Xor
 unfolding tpmu_keyedhash_scheme tpmu_keyedhash_scheme_arm
-returns-in-Found-unmarshal c = finds (search (in_arm tpmu_keyedhash_scheme, by_whole tpms_scheme_xor_answer, rests))
+returns-in_err-x-in-Xor c = leaves tpmu_keyedhash_scheme_parts _ _ c.from_residual-in_err-x-in-Xor.ensures (refuses (search (in_arm tpmu_keyedhash_scheme, by_whole, c.in_err-x-in-Xor.ensures, rests)))
 
-pub returns-in-No-unmarshal : goal.returns-in-No-unmarshal
+pub returns-in_ok-x-in-Xor : goal.returns-in_ok-x-in-Xor
 unfolding tpmu_keyedhash_scheme tpmu_keyedhash_scheme_arm
-returns-in-No-unmarshal c = refuses (search (in_arm tpmu_keyedhash_scheme, by_whole tpms_scheme_xor_answer, rests))
+returns-in_ok-x-in-Xor c = finds (search (in_arm tpmu_keyedhash_scheme, by_whole, c.in_ok-x-in-Xor.ensures, rests))
 
-pub returns-in-16 : goal.returns-in-16
+pub returns-in-Null : goal.returns-in-Null
 unfolding tpmu_keyedhash_scheme tpmu_keyedhash_scheme_arm
-returns-in-16 c = finds (search (in_arm tpmu_keyedhash_scheme, rests))
+returns-in-Null c = finds (search (in_arm tpmu_keyedhash_scheme, rests))
 
 pub returns-in_default : goal.returns-in_default
 unfolding tpmu_keyedhash_scheme tpmu_keyedhash_scheme_arm

@@ -1,70 +1,69 @@
 -- The selector's code chooses the arm that the table has for it, or none. Assumes nothing.
-use Rattle.wire.proofs.Search.{finds, refuses, by_whole, in_arm, no_arm_due, rests}
+use Rattle.wire.proofs.Search.{finds, refuses, by_whole, in_arm, no_arm_due, rests, leaves}
 use Rattle.format.specs.Kinds.{tpmu_signature_table, tpmu_signature_arm, tpmu_signature_body, tpmu_signature}
 use Rattle.codes.proofs.Choices.{none_chosen}
-use Rattle.ciphers.specs.Answers.{tpmt_ha_answer}
-use Rattle.signatures.specs.Answers.{tpms_signature_rsa_answer, tpms_signature_ecc_answer}
+use Rattle.signatures.specs.Parts.{tpmu_signature_parts}
 use Rattle.signatures.proofs.tpmu.TpmuSignature.unmarshal_tagged.Goals as goal
 
-pub returns-in-Found : goal.returns-in-Found
+pub returns-in_err-x-in-Rsassa : goal.returns-in_err-x-in-Rsassa
 unfolding tpmu_signature tpmu_signature_arm
-returns-in-Found c = finds (search (in_arm tpmu_signature, by_whole tpms_signature_rsa_answer, rests))
+returns-in_err-x-in-Rsassa c = leaves tpmu_signature_parts _ _ c.from_residual.ensures (refuses (search (in_arm tpmu_signature, by_whole, c.in_err-x-in-Rsassa.ensures, rests)))
 
-pub returns-in-No : goal.returns-in-No
+pub returns-in_ok-x-in-Rsassa : goal.returns-in_ok-x-in-Rsassa
 unfolding tpmu_signature tpmu_signature_arm
-returns-in-No c = refuses (search (in_arm tpmu_signature, by_whole tpms_signature_rsa_answer, rests))
+returns-in_ok-x-in-Rsassa c = finds (search (in_arm tpmu_signature, by_whole, c.in_ok-x-in-Rsassa.ensures, rests))
 
-pub returns-in-Found-unmarshal : goal.returns-in-Found-unmarshal
+pub returns-in_err-x-in-Rsapss : goal.returns-in_err-x-in-Rsapss
 unfolding tpmu_signature tpmu_signature_arm
-returns-in-Found-unmarshal c = finds (search (in_arm tpmu_signature, by_whole tpms_signature_rsa_answer, rests))
+returns-in_err-x-in-Rsapss c = leaves tpmu_signature_parts _ _ c.from_residual-in_err-x-in-Rsapss.ensures (refuses (search (in_arm tpmu_signature, by_whole, c.in_err-x-in-Rsapss.ensures, rests)))
 
-pub returns-in-No-unmarshal : goal.returns-in-No-unmarshal
+pub returns-in_ok-x-in-Rsapss : goal.returns-in_ok-x-in-Rsapss
 unfolding tpmu_signature tpmu_signature_arm
-returns-in-No-unmarshal c = refuses (search (in_arm tpmu_signature, by_whole tpms_signature_rsa_answer, rests))
+returns-in_ok-x-in-Rsapss c = finds (search (in_arm tpmu_signature, by_whole, c.in_ok-x-in-Rsapss.ensures, rests))
 
-pub returns-in-Found-unmarshal-2 : goal.returns-in-Found-unmarshal-2
+pub returns-in_err-x-in-Ecdsa : goal.returns-in_err-x-in-Ecdsa
 unfolding tpmu_signature tpmu_signature_arm
-returns-in-Found-unmarshal-2 c = finds (search (in_arm tpmu_signature, by_whole tpms_signature_ecc_answer, rests))
+returns-in_err-x-in-Ecdsa c = leaves tpmu_signature_parts _ _ c.from_residual-in_err-x-in-Ecdsa.ensures (refuses (search (in_arm tpmu_signature, by_whole, c.in_err-x-in-Ecdsa.ensures, rests)))
 
-pub returns-in-No-unmarshal-2 : goal.returns-in-No-unmarshal-2
+pub returns-in_ok-x-in-Ecdsa : goal.returns-in_ok-x-in-Ecdsa
 unfolding tpmu_signature tpmu_signature_arm
-returns-in-No-unmarshal-2 c = refuses (search (in_arm tpmu_signature, by_whole tpms_signature_ecc_answer, rests))
+returns-in_ok-x-in-Ecdsa c = finds (search (in_arm tpmu_signature, by_whole, c.in_ok-x-in-Ecdsa.ensures, rests))
 
-pub returns-in-Found-unmarshal-3 : goal.returns-in-Found-unmarshal-3
+pub returns-in_err-x-in-Ecdaa : goal.returns-in_err-x-in-Ecdaa
 unfolding tpmu_signature tpmu_signature_arm
-returns-in-Found-unmarshal-3 c = finds (search (in_arm tpmu_signature, by_whole tpms_signature_ecc_answer, rests))
+returns-in_err-x-in-Ecdaa c = leaves tpmu_signature_parts _ _ c.from_residual-in_err-x-in-Ecdaa.ensures (refuses (search (in_arm tpmu_signature, by_whole, c.in_err-x-in-Ecdaa.ensures, rests)))
 
-pub returns-in-No-unmarshal-3 : goal.returns-in-No-unmarshal-3
+pub returns-in_ok-x-in-Ecdaa : goal.returns-in_ok-x-in-Ecdaa
 unfolding tpmu_signature tpmu_signature_arm
-returns-in-No-unmarshal-3 c = refuses (search (in_arm tpmu_signature, by_whole tpms_signature_ecc_answer, rests))
+returns-in_ok-x-in-Ecdaa c = finds (search (in_arm tpmu_signature, by_whole, c.in_ok-x-in-Ecdaa.ensures, rests))
 
-pub returns-in-Found-unmarshal-4 : goal.returns-in-Found-unmarshal-4
+pub returns-in_err-x-in-Sm2 : goal.returns-in_err-x-in-Sm2
 unfolding tpmu_signature tpmu_signature_arm
-returns-in-Found-unmarshal-4 c = finds (search (in_arm tpmu_signature, by_whole tpms_signature_ecc_answer, rests))
+returns-in_err-x-in-Sm2 c = leaves tpmu_signature_parts _ _ c.from_residual-in_err-x-in-Sm2.ensures (refuses (search (in_arm tpmu_signature, by_whole, c.in_err-x-in-Sm2.ensures, rests)))
 
-pub returns-in-No-unmarshal-4 : goal.returns-in-No-unmarshal-4
+pub returns-in_ok-x-in-Sm2 : goal.returns-in_ok-x-in-Sm2
 unfolding tpmu_signature tpmu_signature_arm
-returns-in-No-unmarshal-4 c = refuses (search (in_arm tpmu_signature, by_whole tpms_signature_ecc_answer, rests))
+returns-in_ok-x-in-Sm2 c = finds (search (in_arm tpmu_signature, by_whole, c.in_ok-x-in-Sm2.ensures, rests))
 
-pub returns-in-Found-unmarshal-5 : goal.returns-in-Found-unmarshal-5
+pub returns-in_err-x-in-Ecschnorr : goal.returns-in_err-x-in-Ecschnorr
 unfolding tpmu_signature tpmu_signature_arm
-returns-in-Found-unmarshal-5 c = finds (search (in_arm tpmu_signature, by_whole tpms_signature_ecc_answer, rests))
+returns-in_err-x-in-Ecschnorr c = leaves tpmu_signature_parts _ _ c.from_residual-in_err-x-in-Ecschnorr.ensures (refuses (search (in_arm tpmu_signature, by_whole, c.in_err-x-in-Ecschnorr.ensures, rests)))
 
-pub returns-in-No-unmarshal-5 : goal.returns-in-No-unmarshal-5
+pub returns-in_ok-x-in-Ecschnorr : goal.returns-in_ok-x-in-Ecschnorr
 unfolding tpmu_signature tpmu_signature_arm
-returns-in-No-unmarshal-5 c = refuses (search (in_arm tpmu_signature, by_whole tpms_signature_ecc_answer, rests))
+returns-in_ok-x-in-Ecschnorr c = finds (search (in_arm tpmu_signature, by_whole, c.in_ok-x-in-Ecschnorr.ensures, rests))
 
-pub returns-in-Found-unmarshal-6 : goal.returns-in-Found-unmarshal-6
+pub returns-in_err-x-in-Hmac : goal.returns-in_err-x-in-Hmac
 unfolding tpmu_signature tpmu_signature_arm
-returns-in-Found-unmarshal-6 c = finds (search (in_arm tpmu_signature, by_whole tpmt_ha_answer, rests))
+returns-in_err-x-in-Hmac c = leaves tpmu_signature_parts _ _ c.from_residual-in_err-x-in-Hmac.ensures (refuses (search (in_arm tpmu_signature, by_whole, c.in_err-x-in-Hmac.ensures, rests)))
 
-pub returns-in-No-unmarshal-6 : goal.returns-in-No-unmarshal-6
+pub returns-in_ok-x-in-Hmac : goal.returns-in_ok-x-in-Hmac
 unfolding tpmu_signature tpmu_signature_arm
-returns-in-No-unmarshal-6 c = refuses (search (in_arm tpmu_signature, by_whole tpmt_ha_answer, rests))
+returns-in_ok-x-in-Hmac c = finds (search (in_arm tpmu_signature, by_whole, c.in_ok-x-in-Hmac.ensures, rests))
 
-pub returns-in-16 : goal.returns-in-16
+pub returns-in-Null : goal.returns-in-Null
 unfolding tpmu_signature tpmu_signature_arm
-returns-in-16 c = finds (search (in_arm tpmu_signature, rests))
+returns-in-Null c = finds (search (in_arm tpmu_signature, rests))
 
 pub returns-in_default : goal.returns-in_default
 unfolding tpmu_signature tpmu_signature_arm

@@ -12,7 +12,7 @@ pub overflow_add-at : goal.overflow_add-at
 overflow_add-at c =
     let a = c.args in
     let xs = c.part.result.now in
-    omega (arith, c.fit_bytes_line-k.ensures.size, bytes_line_length a.place (length xs) xs, bytes_few a.place a.span a.src.now xs c.requires c.part.ensures.result_value)
+    omega (arith, c.fit_bytes_line-k.ensures.size, bytes_line_length a.place (length xs) xs, bytes_few a.place a.span a.src.now xs c.requires c.part.ensures.part)
 
 pub returns-then-at-le-FAR : goal.returns-then-at-le-FAR
 returns-then-at-le-FAR c = search bytes_lined

@@ -6,10 +6,10 @@ pub returns-then-at-gt-FAR : goal.returns-then-at-gt-FAR
 returns-then-at-gt-FAR c = search plain_lines_far
 
 pub bytes_line-requires : goal.bytes_line-requires
-bytes_line-requires c = plain_inside _ _ c.in-Size.is _ _ c.judge_plain.ensures
+bytes_line-requires c = plain_inside _ _ c.in-Ok.is _ _ c.judge_plain.ensures
 
-pub returns-in-Size : goal.returns-in-Size
-returns-in-Size c = search plain_lined
+pub returns-in-Ok : goal.returns-in-Ok
+returns-in-Ok c = search plain_lined
 
-pub returns-in-No : goal.returns-in-No
-returns-in-No c = search plain_not_lined
+pub returns-in-Err : goal.returns-in-Err
+returns-in-Err c = search plain_not_lined

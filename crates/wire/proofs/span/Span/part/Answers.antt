@@ -14,8 +14,8 @@ slice_bounds-result-end c = let within = sym c.inside.ensures ∙ c.if-inside.tr
 
 pub returns-then-inside : goal.returns-then-inside
 returns-then-inside c = let within = sym c.inside.ensures ∙ c.if-inside.true in
-    record { result_value = part_there _ _ _ _ within; place = stands_there _ _ _ _ within (search rules) }
+    record { part = part_there _ _ _ _ within; place = stands_there _ _ _ _ within (search rules) }
 
 pub returns : goal.returns
 returns c = let out = sym c.inside.ensures ∙ c.if-inside.false in
-    record { result_value = part_out _ _ _ 0 out; place = stands_out _ _ _ 0 out (search rules) }
+    record { part = part_out _ _ _ 0 out; place = stands_out _ _ _ 0 out (search rules) }

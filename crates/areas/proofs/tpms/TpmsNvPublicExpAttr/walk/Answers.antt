@@ -1,8 +1,0 @@
--- Its fields, one behind the other. Assumes nothing.
-use Rattle.format.specs.Kinds.{tpms_nv_public_exp_attr}
-use Rattle.steps.proofs.Search.{walking}
-use Rattle.areas.proofs.tpms.TpmsNvPublicExpAttr.walk.Goals as goal
-
-pub returns : goal.returns
-unfolding tpms_nv_public_exp_attr
-returns c = search walking depth 8

@@ -1,8 +1,0 @@
--- Its fields, one behind the other. Assumes nothing.
-use Rattle.format.specs.Kinds.{tpmt_tk_creation, ticket_body}
-use Rattle.steps.proofs.Search.{walking}
-use Rattle.areas.proofs.tpmt.TpmtTkCreation.walk.Goals as goal
-
-pub returns : goal.returns
-unfolding tpmt_tk_creation ticket_body
-returns c = search walking

@@ -1,8 +1,0 @@
--- Its fields, one behind the other. Assumes nothing.
-use Rattle.format.specs.Kinds.{tpms_certify_info}
-use Rattle.steps.proofs.Search.{walking}
-use Rattle.attest.proofs.tpms.TpmsCertifyInfo.walk.Goals as goal
-
-pub returns : goal.returns
-unfolding tpms_certify_info
-returns c = search walking

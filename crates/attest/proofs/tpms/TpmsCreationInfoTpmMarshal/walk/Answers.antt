@@ -1,0 +1,8 @@
+-- Its fields, one behind the other. Assumes nothing.
+use Rattle.format.specs.Kinds.{tpms_creation_info}
+use Rattle.steps.proofs.Search.{walking}
+use Rattle.attest.proofs.tpms.TpmsCreationInfoTpmMarshal.walk.Goals as goal
+
+pub returns : goal.returns
+unfolding tpms_creation_info
+returns c = search walking

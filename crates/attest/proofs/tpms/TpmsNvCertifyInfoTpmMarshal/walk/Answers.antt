@@ -1,0 +1,8 @@
+-- Its fields, one behind the other. Assumes nothing.
+use Rattle.format.specs.Kinds.{tpms_nv_certify_info}
+use Rattle.steps.proofs.Search.{walking}
+use Rattle.attest.proofs.tpms.TpmsNvCertifyInfoTpmMarshal.walk.Goals as goal
+
+pub returns : goal.returns
+unfolding tpms_nv_certify_info
+returns c = search walking

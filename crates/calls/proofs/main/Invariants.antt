@@ -1,8 +1,0 @@
--- Every turn is one of those that are left. Assumes nothing.
-use Rattle.calls.proofs.main.Given as goal
-
-abbrev pub invariant-loop-turns : goal.invariant-loop-turns
-invariant-loop-turns l = Unit {0}
-
-abbrev pub decreases-loop-turns : goal.decreases-loop-turns
-decreases-loop-turns l = l.turns

@@ -1,8 +1,0 @@
--- Its fields, one behind the other. Assumes nothing.
-use Rattle.format.specs.Kinds.{tpms_capability_data}
-use Rattle.steps.proofs.Search.{walking}
-use Rattle.capabilities.proofs.tpms.TpmsCapabilityData.walk.Goals as goal
-
-pub returns : goal.returns
-unfolding tpms_capability_data
-returns c = search walking

@@ -1,6 +1,0 @@
--- The numbers up to the last are the list. Assumes nothing.
-use Rattle.codes.proofs.Ranges.{cap_test}
-use Rattle.codes.proofs.TpmCap.is_listed.Goals as goal
-
-pub returns : goal.returns
-returns c = cap_test c.args.self.0

@@ -1,6 +1,0 @@
--- It is judged. Assumes nothing.
-use Rattle.steps.proofs.Marshalled.{measured}
-use Rattle.keys.proofs.tpmt.TpmtPublic.measure.Goals as goal
-
-pub returns : goal.returns
-returns c = search measured

@@ -1,8 +1,0 @@
--- Its fields, one behind the other. Assumes nothing.
-use Rattle.format.specs.Kinds.{tpms_scheme_xor}
-use Rattle.steps.proofs.Search.{walking}
-use Rattle.schemes.proofs.tpms.TpmsSchemeXor.walk.Goals as goal
-
-pub returns : goal.returns
-unfolding tpms_scheme_xor
-returns c = search walking

@@ -1,0 +1,17 @@
+-- Field by field, what is left to read is the rest of the layout. Assumes nothing.
+use Rattle.wire.proofs.Search.{finds, refuses, leaves, reading}
+use Rattle.format.specs.Kinds.{tpms_scheme_xor}
+use Rattle.schemes.specs.Parts.{tpms_scheme_xor_parts}
+use Rattle.schemes.proofs.tpms.TpmsSchemeXorTpmUnmarshal.unmarshal.Goals as goal
+
+pub returns-in_err-hash_alg : goal.returns-in_err-hash_alg
+unfolding tpms_scheme_xor
+returns-in_err-hash_alg c = leaves tpms_scheme_xor_parts _ _ c.from_residual.ensures (refuses (search (reading, c.in_err-hash_alg.ensures)))
+
+pub returns-in_err-kdf : goal.returns-in_err-kdf
+unfolding tpms_scheme_xor
+returns-in_err-kdf c = leaves tpms_scheme_xor_parts _ _ c.from_residual-in_err-kdf.ensures (refuses (search (reading, c.in_ok-hash_alg.ensures, c.in_err-kdf.ensures)))
+
+pub returns : goal.returns
+unfolding tpms_scheme_xor
+returns c = finds (search (reading, c.in_ok-hash_alg.ensures, c.in_ok-kdf.ensures))

@@ -1,8 +1,0 @@
--- Its fields, one behind the other. Assumes nothing.
-use Rattle.format.specs.Kinds.{tpmt_keyedhash_scheme}
-use Rattle.steps.proofs.Search.{walking}
-use Rattle.schemes.proofs.tpmt.TpmtKeyedhashScheme.walk.Goals as goal
-
-pub returns : goal.returns
-unfolding tpmt_keyedhash_scheme
-returns c = search walking

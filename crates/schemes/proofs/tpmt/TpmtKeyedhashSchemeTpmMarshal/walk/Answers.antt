@@ -1,0 +1,8 @@
+-- Its fields, one behind the other. Assumes nothing.
+use Rattle.format.specs.Kinds.{tpmt_keyedhash_scheme}
+use Rattle.steps.proofs.Search.{walking}
+use Rattle.schemes.proofs.tpmt.TpmtKeyedhashSchemeTpmMarshal.walk.Goals as goal
+
+pub returns : goal.returns
+unfolding tpmt_keyedhash_scheme
+returns c = search walking

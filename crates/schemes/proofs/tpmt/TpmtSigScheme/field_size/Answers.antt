@@ -1,6 +1,0 @@
--- The size of the field that was sought. Assumes nothing.
-use Rattle.steps.proofs.Found.{sought_size}
-use Rattle.schemes.proofs.tpmt.TpmtSigScheme.field_size.Goals as goal
-
-pub returns : goal.returns
-returns c = search sought_size

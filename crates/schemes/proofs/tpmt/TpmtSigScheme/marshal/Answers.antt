@@ -1,6 +1,0 @@
--- It is measured, and then put. Assumes nothing.
-use Rattle.steps.proofs.Marshalled.{marshalled}
-use Rattle.schemes.proofs.tpmt.TpmtSigScheme.marshal.Goals as goal
-
-pub returns : goal.returns
-returns c = search marshalled

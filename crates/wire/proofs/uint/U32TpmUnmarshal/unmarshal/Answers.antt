@@ -1,0 +1,7 @@
+-- The number is the one that was read at that width, and so fits it. Assumes nothing.
+use mathlib.Core.Path.{refl}
+use Rattle.wire.proofs.Judged.{read_fits}
+use Rattle.wire.proofs.uint.U32TpmUnmarshal.unmarshal.Goals as goal
+
+pub overflow_cast-result : goal.overflow_cast-result
+overflow_cast-result c = record { fits = read_fits 4 _ _ c.in_ok-n.ensures refl c.type_inv.s }
