@@ -8,6 +8,7 @@ use crate::tpmu::TpmuNvPublic2;
 use codes::{Ticket, TpmHt, TpmRh, TpmSt};
 use format::limits;
 use steps::marshal::{Listless, TpmMarshal};
+use steps::tagged::TpmTagged;
 use steps::walk::Walk;
 use wire::read::Read;
 use wire::span::Span;

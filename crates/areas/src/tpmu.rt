@@ -1,10 +1,6 @@
-// The public part of an NV area, by its handle type. It has the calls that a union has (ciphers, tpmu.rt).
-ghost use Rattle.std.specs.Prelude.{◌≡◌, []};
-ghost use Rattle.wire.specs.Answers.{answer};
-ghost use Rattle.wire.specs.Reading.{read};
-ghost use Rattle.wire.specs.Unions.{is_arm, held};
+// The public part of an NV area, by its handle type. It has the calls of `TpmTagged` (steps).
+ghost use Rattle.std.specs.Prelude.{[]};
 ghost use Rattle.format.specs.Kinds.{tpmu_nv_public2_arm, tpmu_nv_public2};
-ghost use Rattle.steps.specs.Walks.{here, Walks};
 ghost use Rattle.areas.specs.Parts.{tpmu_nv_public2_parts};
 
 use crate::tpms::{TpmsNvPublic, TpmsNvPublicExpAttr};
@@ -12,6 +8,7 @@ use codes::TpmHt;
 use faults::Refusal;
 use format::arms::nv_public2_arm;
 use steps::marshal::TpmMarshal;
+use steps::tagged::TpmTagged;
 use steps::walk::Walk;
 use wire::read::Read;
 use wire::unmarshal::TpmUnmarshal;
@@ -23,10 +20,20 @@ pub enum TpmuNvPublic2 {
     PermanentNv(TpmsNvPublic),
 }
 
-impl TpmuNvPublic2 {
-    pub fn unmarshal_tagged(tag: TpmHt, s: &[u8], at: usize) -> Read<TpmuNvPublic2>
-        ensures { answer tpmu_nv_public2_parts result ≡ read (tpmu_nv_public2 tag.0) s.now at }
-    {
+impl TpmTagged for TpmuNvPublic2 {
+    type Tag = TpmHt;
+
+    ghost arm = { tpmu_nv_public2_arm };
+
+    ghost layout = { tpmu_nv_public2 };
+
+    ghost parts = { tpmu_nv_public2_parts };
+
+    ghost lists = { λ _. [] };
+
+    ghost steps = { 6 };
+
+    fn unmarshal_tagged(tag: TpmHt, s: &[u8], at: usize) -> Read<Self> {
         match tag {
             TpmHt::NvIndex => {
                 let (x, end) = TpmsNvPublic::unmarshal(s, at)?;
@@ -44,9 +51,7 @@ impl TpmuNvPublic2 {
         }
     }
 
-    pub fn matches_tag(self, tag: TpmHt) -> bool
-        ensures { result ≡ is_arm (tpmu_nv_public2_arm tag.0) (held (tpmu_nv_public2_parts self)) }
-    {
+    fn matches_tag(self, tag: TpmHt) -> bool {
         match self {
             Self::NvIndex(_) => tag.0 == TpmHt::NvIndex.0,
             Self::ExternalNv(_) => tag.0 == TpmHt::ExternalNv.0,
@@ -54,9 +59,7 @@ impl TpmuNvPublic2 {
         }
     }
 
-    pub fn walk_tagged(self, tag: TpmHt, w: Walk, src: &[u8], out: &mut [u8]) -> Walk
-        ensures { Walks 6 (tpmu_nv_public2 tag.0) (tpmu_nv_public2_parts self) [] src.now (here w out.old) (here result out.new) }
-    {
+    fn walk_tagged(self, tag: TpmHt, w: Walk, src: &[u8], out: &mut [u8]) -> Walk {
         let v = w.due(tag, nv_public2_arm(tag), self.matches_tag(tag));
         match self {
             Self::NvIndex(x) => x.walk(v, src, out),

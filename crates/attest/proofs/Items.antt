@@ -160,10 +160,6 @@ pub lists_that_were_read_are_legal : {src : List ℕ} {ls : List Part} → Bytes
 lists_that_were_read_are_legal {src} b (attestation x at e told) = read_records_lists_are_legal tpms_attest src at b (sym told) (lists_of_a_read_attestation x src at b (sym told))
 lists_that_were_read_are_legal {src} b (selections x at e told) = read_records_lists_are_legal tpml_pcr_selection src at b (sym told) (lists_of_a_selection_list x)
 
--- a record that was found whole is found as a prefix
-pub found_whole_is_found : (l : Layout) (src : List ℕ) (at : ℕ) {e : ℕ} {ps : List Part} → parsed ps e ≡ read_whole l src at → parsed ps e ≡ read l src at
-found_whole_is_found l src at told = sym (whole_is_read l src at (sym told)).0
-
 -- ---- the items of such lists
 
 module _ {src : List ℕ} {m : ℕ} {item : Layout} where

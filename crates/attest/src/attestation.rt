@@ -12,6 +12,7 @@ use format::limits;
 use format::list::ListOf;
 use lists::listed::Listed;
 use steps::marshal::TpmMarshal;
+use steps::tagged::TpmTagged;
 use steps::walk::Walk;
 use wire::read::{Read, buffer, number};
 use wire::span::Span;

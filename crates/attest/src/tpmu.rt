@@ -1,10 +1,5 @@
-// The union of attestations: what the TPM attests to, by the attestation's type. It has the calls that a union has (ciphers, tpmu.rt).
-ghost use Rattle.std.specs.Prelude.{◌≡◌};
-ghost use Rattle.wire.specs.Answers.{answer};
-ghost use Rattle.wire.specs.Reading.{read};
-ghost use Rattle.wire.specs.Unions.{is_arm, held};
+// The union of attestations: what the TPM attests to, by the attestation's type. It has the calls of `TpmTagged` (steps).
 ghost use Rattle.format.specs.Kinds.{tpmu_attest_arm, tpmu_attest};
-ghost use Rattle.steps.specs.Walks.{here, Walks};
 ghost use Rattle.attest.specs.Parts.{tpmu_attest_parts, tpmu_attest_lists};
 
 use crate::tpms::{
@@ -15,6 +10,7 @@ use codes::TpmSt;
 use faults::Refusal;
 use format::arms::attest_arm;
 use steps::marshal::TpmMarshal;
+use steps::tagged::TpmTagged;
 use steps::walk::Walk;
 use wire::read::Read;
 use wire::unmarshal::TpmUnmarshal;
@@ -31,10 +27,20 @@ pub enum TpmuAttest {
     NvDigest(TpmsNvDigestCertifyInfo),
 }
 
-impl TpmuAttest {
-    pub fn unmarshal_tagged(tag: TpmSt, s: &[u8], at: usize) -> Read<TpmuAttest>
-        ensures { answer tpmu_attest_parts result ≡ read (tpmu_attest tag.0) s.now at }
-    {
+impl TpmTagged for TpmuAttest {
+    type Tag = TpmSt;
+
+    ghost arm = { tpmu_attest_arm };
+
+    ghost layout = { tpmu_attest };
+
+    ghost parts = { tpmu_attest_parts };
+
+    ghost lists = { tpmu_attest_lists };
+
+    ghost steps = { 7 };
+
+    fn unmarshal_tagged(tag: TpmSt, s: &[u8], at: usize) -> Read<Self> {
         match tag {
             TpmSt::AttestCertify => {
                 let (x, end) = TpmsCertifyInfo::unmarshal(s, at)?;
@@ -72,9 +78,7 @@ impl TpmuAttest {
         }
     }
 
-    pub fn matches_tag(self, tag: TpmSt) -> bool
-        ensures { result ≡ is_arm (tpmu_attest_arm tag.0) (held (tpmu_attest_parts self)) }
-    {
+    fn matches_tag(self, tag: TpmSt) -> bool {
         match self {
             Self::Certify(_) => tag.0 == TpmSt::AttestCertify.0,
             Self::Creation(_) => tag.0 == TpmSt::AttestCreation.0,
@@ -87,9 +91,7 @@ impl TpmuAttest {
         }
     }
 
-    pub fn walk_tagged(self, tag: TpmSt, w: Walk, src: &[u8], out: &mut [u8]) -> Walk
-        ensures { Walks 7 (tpmu_attest tag.0) (tpmu_attest_parts self) (tpmu_attest_lists self) src.now (here w out.old) (here result out.new) }
-    {
+    fn walk_tagged(self, tag: TpmSt, w: Walk, src: &[u8], out: &mut [u8]) -> Walk {
         let v = w.due(tag, attest_arm(tag), self.matches_tag(tag));
         match self {
             Self::Certify(x) => x.walk(v, src, out),

@@ -14,6 +14,7 @@ use schemes::tpmt::{
 use signatures::tpmt::TpmtSignature;
 use signatures::tpmu::TpmuSignature;
 use steps::marshal::TpmMarshal;
+use steps::tagged::TpmTagged;
 use wire::unmarshal::TpmUnmarshal;
 
 pub trait Changed: TpmMarshal {

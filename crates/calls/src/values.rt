@@ -15,6 +15,7 @@ use capabilities::tpms::TpmsCapabilityData;
 use capabilities::tpmu::TpmuCapabilities;
 use codes::{TpmCap, TpmRh, TpmSt};
 use sensitive::tpmt::TpmtSensitive;
+use steps::tagged::TpmTagged;
 use wire::span::Span;
 
 impl Changed for TpmtSensitive {

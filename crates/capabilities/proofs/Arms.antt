@@ -6,6 +6,7 @@ use mathlib.Core.List.{List, [], ◌∷◌}
 use lib.Dec.{eqb}
 use borrow.Author.Tests.{eqb-true}
 use Rattle.std.specs.Prelude.{None, Option, Some}
+use Rattle.std.proofs.lemmas.Option.{none-some}
 use Rattle.faults.specs.declared.Refusal.{Refusal}
 use Rattle.faults.specs.Faults.{no_such_arm}
 use Rattle.wire.specs.declared.span.Span.{Span}
@@ -14,7 +15,7 @@ use Rattle.wire.specs.Layout.{stop, arm}
 use Rattle.wire.specs.Records.{refused, parsed}
 use Rattle.wire.specs.Reading.{read}
 use Rattle.wire.specs.Unions.{is_arm}
-use Rattle.codes.proofs.Choices.{Each, nothing_chosen, chosen_has}
+use Rattle.codes.proofs.Choices.{Each, chosen_has}
 use Rattle.format.specs.declared.list.ListOf.{ListOf}
 use Rattle.format.specs.Kinds.{item_layout, most_items, tpml, tpml_pcr_selection, tpmu_capabilities_table, tpmu_capabilities_arm, tpmu_capabilities_body, tpmu_capabilities}
 use Rattle.format.proofs.Tables.{◌&◌}
@@ -144,7 +145,7 @@ pub is_own_arm : (v : ℕ) (u : TpmuCapabilities) {n : ℕ} → n ≡ code_of u 
 is_own_arm v u {n} e = ap (λ m. eqb m v) e ∙ by (tpmu_capabilities_arm v) refl
   where
     differs : (b : Bool) → eqb (code_of u) v ≡ b → tpmu_capabilities_arm v ≡ None → b ≡ false
-    differs true p q = let same : code_of u ≡ v = eqb-true (code_of u) v p in absurd (nothing_chosen (sym q ∙ sym (ap tpmu_capabilities_arm same) ∙ code_chooses u))
+    differs true p q = let same : code_of u ≡ v = eqb-true (code_of u) v p in absurd (none-some _ (sym q ∙ sym (ap tpmu_capabilities_arm same) ∙ code_chooses u))
     differs false p q = refl
 
     by : (c : Option ℕ) → tpmu_capabilities_arm v ≡ c → eqb (code_of u) v ≡ is_arm c (code_of u)

@@ -22,10 +22,6 @@ use Rattle.capabilities.specs.declared.tpms.TpmsCapabilityData.{TpmsCapabilityDa
 use Rattle.capabilities.specs.Parts.{code_of, list_of, items_of, tpmu_capabilities_parts, tpmu_capabilities_lists, tpms_capability_data_parts}
 use Rattle.capabilities.proofs.Arms.{chosen_own, body_of_arm}
 
--- a record has one list
-pub one_list_of : (u : TpmuCapabilities) → leb (length (tpmu_capabilities_lists u)) 1 ≡ true
-one_list_of u = refl
-
 module _ (x : TpmsCapabilityData) (src : List ℕ) (at : ℕ) {e : ℕ} (b : Bytes src) (there : read tpms_capability_data src at ≡ parsed (tpms_capability_data_parts x) e) where
   abbrev asked : ℕ
   asked = x.capability.0

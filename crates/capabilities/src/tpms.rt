@@ -9,6 +9,7 @@ use codes::TpmCap;
 use format::list::ListOf;
 use lists::listed::Listed;
 use steps::marshal::TpmMarshal;
+use steps::tagged::TpmTagged;
 use steps::walk::Walk;
 use wire::read::Read;
 use wire::unmarshal::TpmUnmarshal;

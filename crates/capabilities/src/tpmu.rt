@@ -1,11 +1,7 @@
-// The union of capabilities: a list for each, by the capability's code. It has the calls that a union has (ciphers, tpmu.rt), and what its arm is by rows:
-// the code, the list and the span of each.
+// The union of capabilities: a list for each, by the capability's code. It has the calls of `TpmTagged` (steps), and what its arm is by
+// rows: the code, the list and the span of each.
 ghost use Rattle.std.specs.Prelude.{◌≡◌};
-ghost use Rattle.wire.specs.Answers.{answer};
-ghost use Rattle.wire.specs.Reading.{read};
-ghost use Rattle.wire.specs.Unions.{is_arm, held};
 ghost use Rattle.format.specs.Kinds.{tpmu_capabilities_arm, tpmu_capabilities};
-ghost use Rattle.steps.specs.Walks.{here, Walks};
 ghost use Rattle.capabilities.specs.Parts.{arm_for, code_of, list_of, items_of, tpmu_capabilities_parts, tpmu_capabilities_lists};
 
 use crate::list::{
@@ -18,6 +14,7 @@ use faults::Refusal;
 use format::arms::capabilities_arm;
 use format::list::ListOf;
 use lists::list::{list, read_list};
+use steps::tagged::TpmTagged;
 use steps::walk::Walk;
 use wire::read::Read;
 use wire::span::Span;
@@ -108,10 +105,22 @@ impl TpmuCapabilities {
             Self::Act(x) => x.items,
         }
     }
+}
 
-    pub fn unmarshal_tagged(tag: TpmCap, s: &[u8], at: usize) -> Read<TpmuCapabilities>
-        ensures { answer tpmu_capabilities_parts result ≡ read (tpmu_capabilities tag.0) s.now at }
-    {
+impl TpmTagged for TpmuCapabilities {
+    type Tag = TpmCap;
+
+    ghost arm = { tpmu_capabilities_arm };
+
+    ghost layout = { tpmu_capabilities };
+
+    ghost parts = { tpmu_capabilities_parts };
+
+    ghost lists = { tpmu_capabilities_lists };
+
+    ghost steps = { 2 };
+
+    fn unmarshal_tagged(tag: TpmCap, s: &[u8], at: usize) -> Read<Self> {
         match capabilities_arm(tag) {
             Some(_) => {
                 let arm = Self::of(tag, Span::new(at, 0));
@@ -122,15 +131,11 @@ impl TpmuCapabilities {
         }
     }
 
-    pub fn matches_tag(self, tag: TpmCap) -> bool
-        ensures { result ≡ is_arm (tpmu_capabilities_arm tag.0) (held (tpmu_capabilities_parts self)) }
-    {
+    fn matches_tag(self, tag: TpmCap) -> bool {
         self.code().0 == tag.0
     }
 
-    pub fn walk_tagged(self, tag: TpmCap, w: Walk, src: &[u8], out: &mut [u8]) -> Walk
-        ensures { Walks 2 (tpmu_capabilities tag.0) (tpmu_capabilities_parts self) (tpmu_capabilities_lists self) src.now (here w out.old) (here result out.new) }
-    {
+    fn walk_tagged(self, tag: TpmCap, w: Walk, src: &[u8], out: &mut [u8]) -> Walk {
         let v = w.due(tag, capabilities_arm(tag), self.matches_tag(tag));
         list(v, self.list_of(), self.items(), src, out)
     }

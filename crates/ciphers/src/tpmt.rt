@@ -10,6 +10,7 @@ ghost use Rattle.ciphers.specs.Parts.{tpmt_ha_parts, tpmt_sym_def_parts};
 use crate::tpmu::{TpmuHa, TpmuSymKeyBits, TpmuSymMode};
 use codes::TpmAlgId;
 use steps::marshal::{Listless, TpmMarshal};
+use steps::tagged::TpmTagged;
 use steps::walk::Walk;
 use wire::read::Read;
 use wire::unmarshal::TpmUnmarshal;

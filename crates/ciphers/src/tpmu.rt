@@ -1,17 +1,14 @@
-// The unions of kinds 1 and 2, with the calls that a union has: `unmarshal_tagged` reads the arm that the selector chooses, `matches_tag` says whether
-// the payload is that arm, and `walk_tagged` judges that where the arm is due and then goes over what is held. Where several selectors choose one arm,
-// a private `holds` says it of the arm that was looked up.
+// The unions of kinds 1 and 2, with the calls of `TpmTagged` (steps). Where several selectors choose one arm, a private `holds` says of the
+// arm that was looked up whether the payload is that one.
 ghost use Rattle.std.specs.Prelude.{◌≡◌, []};
-ghost use Rattle.wire.specs.Answers.{answer};
-ghost use Rattle.wire.specs.Reading.{read};
 ghost use Rattle.wire.specs.Unions.{is_arm, held};
 ghost use Rattle.format.specs.Kinds.{tpmu_ha_arm, tpmu_sym_key_bits_arm, tpmu_sym_mode_arm, tpmu_ha, tpmu_sym_key_bits, tpmu_sym_mode};
-ghost use Rattle.steps.specs.Walks.{here, Walks};
 ghost use Rattle.ciphers.specs.Parts.{tpmu_ha_parts, tpmu_sym_key_bits_parts, tpmu_sym_mode_parts};
 
 use codes::{DigestLen, TpmAlgId};
 use faults::Refusal;
 use format::arms::{ha_arm, sym_key_bits_arm, sym_mode_arm};
+use steps::tagged::TpmTagged;
 use steps::walk::Walk;
 use wire::arms::is_arm;
 use wire::read::{Read, plain};
@@ -41,10 +38,20 @@ pub enum TpmuSymMode {
     Null,
 }
 
-impl TpmuHa {
-    pub fn unmarshal_tagged(tag: TpmAlgId, s: &[u8], at: usize) -> Read<TpmuHa>
-        ensures { answer tpmu_ha_parts result ≡ read (tpmu_ha tag.0) s.now at }
-    {
+impl TpmTagged for TpmuHa {
+    type Tag = TpmAlgId;
+
+    ghost arm = { tpmu_ha_arm };
+
+    ghost layout = { tpmu_ha };
+
+    ghost parts = { tpmu_ha_parts };
+
+    ghost lists = { λ _. [] };
+
+    ghost steps = { 2 };
+
+    fn unmarshal_tagged(tag: TpmAlgId, s: &[u8], at: usize) -> Read<Self> {
         match tag.digest_len() {
             DigestLen::Bytes(n) => {
                 let (x, end) = plain(s, at, n as usize)?;
@@ -56,9 +63,7 @@ impl TpmuHa {
     }
 
     // Whether the payload is the digest that the algorithm has, at its length.
-    pub fn matches_tag(self, tag: TpmAlgId) -> bool
-        ensures { result ≡ is_arm (tpmu_ha_arm tag.0) (held (tpmu_ha_parts self)) }
-    {
+    fn matches_tag(self, tag: TpmAlgId) -> bool {
         match tag.digest_len() {
             DigestLen::Bytes(n) => match self {
                 Self::Digest(x) => x.len() == n as usize,
@@ -72,9 +77,7 @@ impl TpmuHa {
         }
     }
 
-    pub fn walk_tagged(self, tag: TpmAlgId, w: Walk, src: &[u8], out: &mut [u8]) -> Walk
-        ensures { Walks 2 (tpmu_ha tag.0) (tpmu_ha_parts self) [] src.now (here w out.old) (here result out.new) }
-    {
+    fn walk_tagged(self, tag: TpmAlgId, w: Walk, src: &[u8], out: &mut [u8]) -> Walk {
         let chosen = ha_arm(tag);
         let v = w.due(tag, chosen, self.matches_tag(tag));
         match self {
@@ -84,10 +87,20 @@ impl TpmuHa {
     }
 }
 
-impl TpmuSymKeyBits {
-    pub fn unmarshal_tagged(tag: TpmAlgId, s: &[u8], at: usize) -> Read<TpmuSymKeyBits>
-        ensures { answer tpmu_sym_key_bits_parts result ≡ read (tpmu_sym_key_bits tag.0) s.now at }
-    {
+impl TpmTagged for TpmuSymKeyBits {
+    type Tag = TpmAlgId;
+
+    ghost arm = { tpmu_sym_key_bits_arm };
+
+    ghost layout = { tpmu_sym_key_bits };
+
+    ghost parts = { tpmu_sym_key_bits_parts };
+
+    ghost lists = { λ _. [] };
+
+    ghost steps = { 2 };
+
+    fn unmarshal_tagged(tag: TpmAlgId, s: &[u8], at: usize) -> Read<Self> {
         match tag {
             TpmAlgId::Aes => {
                 let (bits, end) = u16::unmarshal(s, at)?;
@@ -110,9 +123,7 @@ impl TpmuSymKeyBits {
         }
     }
 
-    pub fn matches_tag(self, tag: TpmAlgId) -> bool
-        ensures { result ≡ is_arm (tpmu_sym_key_bits_arm tag.0) (held (tpmu_sym_key_bits_parts self)) }
-    {
+    fn matches_tag(self, tag: TpmAlgId) -> bool {
         match self {
             Self::Aes(_) => tag.0 == TpmAlgId::Aes.0,
             Self::Sm4(_) => tag.0 == TpmAlgId::Sm4.0,
@@ -122,9 +133,7 @@ impl TpmuSymKeyBits {
         }
     }
 
-    pub fn walk_tagged(self, tag: TpmAlgId, w: Walk, src: &[u8], out: &mut [u8]) -> Walk
-        ensures { Walks 2 (tpmu_sym_key_bits tag.0) (tpmu_sym_key_bits_parts self) [] src.now (here w out.old) (here result out.new) }
-    {
+    fn walk_tagged(self, tag: TpmAlgId, w: Walk, src: &[u8], out: &mut [u8]) -> Walk {
         let v = w.due(tag, sym_key_bits_arm(tag), self.matches_tag(tag));
         match self {
             Self::Aes(x) => v.number(x, out),
@@ -147,10 +156,22 @@ impl TpmuSymMode {
             Self::Null => is_arm(chosen, TpmAlgId::Null.0),
         }
     }
+}
 
-    pub fn unmarshal_tagged(tag: TpmAlgId, s: &[u8], at: usize) -> Read<TpmuSymMode>
-        ensures { answer tpmu_sym_mode_parts result ≡ read (tpmu_sym_mode tag.0) s.now at }
-    {
+impl TpmTagged for TpmuSymMode {
+    type Tag = TpmAlgId;
+
+    ghost arm = { tpmu_sym_mode_arm };
+
+    ghost layout = { tpmu_sym_mode };
+
+    ghost parts = { tpmu_sym_mode_parts };
+
+    ghost lists = { λ _. [] };
+
+    ghost steps = { 2 };
+
+    fn unmarshal_tagged(tag: TpmAlgId, s: &[u8], at: usize) -> Read<Self> {
         match tag {
             TpmAlgId::Aes => {
                 let (mode, end) = TpmAlgId::unmarshal(s, at)?;
@@ -169,15 +190,11 @@ impl TpmuSymMode {
         }
     }
 
-    pub fn matches_tag(self, tag: TpmAlgId) -> bool
-        ensures { result ≡ is_arm (tpmu_sym_mode_arm tag.0) (held (tpmu_sym_mode_parts self)) }
-    {
+    fn matches_tag(self, tag: TpmAlgId) -> bool {
         self.holds(sym_mode_arm(tag))
     }
 
-    pub fn walk_tagged(self, tag: TpmAlgId, w: Walk, src: &[u8], out: &mut [u8]) -> Walk
-        ensures { Walks 2 (tpmu_sym_mode tag.0) (tpmu_sym_mode_parts self) [] src.now (here w out.old) (here result out.new) }
-    {
+    fn walk_tagged(self, tag: TpmAlgId, w: Walk, src: &[u8], out: &mut [u8]) -> Walk {
         let chosen = sym_mode_arm(tag);
         let v = w.due(tag, chosen, self.holds(chosen));
         match self {

@@ -1,6 +1,5 @@
 -- The selectors' tables: what holds of every row holds of the arm that is chosen. Assumes nothing.
 use Prim.Native.Nat.{ℕ}
-use native.Mathlib.Omega.{arith}
 use mathlib.Core.Path.{◌≡◌, refl, sym, ap, ◌∙◌, subst}
 use mathlib.Core.Bool.{Bool, true, false, ◌||◌, ◌&&◌, cond, false≢true}
 use mathlib.Core.List.{List, [], ◌∷◌, map}
@@ -8,6 +7,7 @@ use mathlib.Core.Logic.{◌⊎◌}
 use lib.Dec.{eqb}
 use borrow.Author.Tests.{ne_eqb, eqb-true}
 use Rattle.std.specs.Prelude.{None, Option, Some}
+use Rattle.std.proofs.lemmas.Option.{none-some}
 use Rattle.wire.specs.Unions.{Row, arm_of}
 use Rattle.codes.specs.Codes.{member}
 
@@ -16,12 +16,9 @@ abbrev pub Each : (ℕ → Type 0) → List Row → Type 0
 Each P [] = Unit {0}
 Each P (r ∷ rs) = P r.chooses × Each P rs
 
-pub nothing_chosen : {t : ℕ} → None ≡ Some t → ⊥
-nothing_chosen e = let z : ◌≡◌ {A = ℕ} 0 1 = cc in omega arith
-
 -- so it holds of the arm that is chosen
 pub chosen_has : (P : ℕ → Type 0) (rs : List Row) → Each P rs → (v : ℕ) {t : ℕ} → arm_of rs v ≡ Some t → P t
-chosen_has P [] h v e = absurd (nothing_chosen e)
+chosen_has P [] h v e = absurd (none-some _ e)
 chosen_has P (r ∷ rs) h v {t} e = go (eqb v r.selector) e (λ q. chosen_has P rs h.1 v q)
   where
     go : (b : Bool) → cond b (Some r.chooses) (arm_of rs v) ≡ Some t → (arm_of rs v ≡ Some t → P t) → P t

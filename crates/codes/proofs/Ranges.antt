@@ -2,7 +2,7 @@
 use Prim.Native.Nat.{ℕ, zero, suc, ◌+◌, ◌-◌, ◌≤◌, ◌<◌}
 use native.Mathlib.Omega.{arith}
 use mathlib.Core.Path.{◌≡◌, refl, sym, ap, ◌∙◌}
-use mathlib.Core.Bool.{Bool, true, false, ◌||◌, ◌&&◌, false≢true}
+use mathlib.Core.Bool.{Bool, true, false, ◌||◌, ◌&&◌, false≢true, or_assoc, or-false}
 use mathlib.Core.List.{List, [], ◌∷◌, ◌++◌}
 use lib.ListN.{length}
 use lib.Dec.{eqb, leb}
@@ -36,10 +36,6 @@ unfolding hierarchies
 hierarchies_4 = refl
 
 -- ---- membership by ranges
-
-or_assoc : (a b c : Bool) → ((a || b) || c) ≡ (a || (b || c))
-or_assoc true b c = refl
-or_assoc false b c = refl
 
 member_append : (xs ys : List ℕ) (n : ℕ) → member (xs ++ ys) n ≡ (member xs n || member ys n)
 member_append [] ys n = refl
@@ -85,13 +81,9 @@ abbrev pub Upright : List Range → Type 0
 Upright [] = Unit {0}
 Upright (r ∷ rs) = (r.lo ≤ r.hi + 1) × Upright rs
 
-or_none : (b : Bool) → b ≡ (b || false)
-or_none true = refl
-or_none false = refl
-
 -- are the test of their numbers
 or_member : (rs : List Range) (n : ℕ) (b : Bool) → Upright rs → or_within b rs n ≡ (b || member (numbers rs) n)
-or_member [] n b u = or_none b
+or_member [] n b u = sym (or-false b)
 or_member (r ∷ rs) n b u =
     or_member rs n (b || within r.lo r.hi n) u.1
     ∙ or_assoc b (within r.lo r.hi n) (member (numbers rs) n)
@@ -122,7 +114,7 @@ or_equal b [] n = b
 or_equal b (x ∷ xs) n = or_equal (b || eqb n x) xs n
 
 or_equal_lem : (b : Bool) (xs : List ℕ) (n : ℕ) → or_equal b xs n ≡ (b || member xs n)
-or_equal_lem b [] n = or_none b
+or_equal_lem b [] n = sym (or-false b)
 or_equal_lem b (x ∷ xs) n = or_equal_lem (b || eqb n x) xs n ∙ or_assoc b (eqb n x) (member xs n)
 
 -- are the test of their list: so the code's tests of a handle type, of a hierarchy and of a tag are their lists

@@ -228,6 +228,7 @@ impl TpmSt {
     pub const AuthSigned: TpmSt = TpmSt(0x8025);
 
     // The codes of the attestation types, rising; a ticket's tag is no code.
+    #[tactic(auto, unfolding(crate::specs::Codes::attestations))]
     pub fn named() -> [u16; 8]
         ensures { result ≡ attestations }
     {
@@ -293,6 +294,7 @@ impl TpmCap {
     pub const Act: TpmCap = TpmCap(0x0000000A);
 
     // Their codes, rising.
+    #[tactic(auto, unfolding(crate::specs::Codes::caps))]
     pub fn named() -> [u32; 11]
         ensures { result ≡ caps }
     {
@@ -320,6 +322,7 @@ impl TpmHt {
     pub const PermanentNv: TpmHt = TpmHt(0x12);
 
     // Their codes, rising.
+    #[tactic(auto, unfolding(crate::specs::Codes::handle_types))]
     pub fn named() -> [u8; 3]
         ensures { result ≡ handle_types }
     {
@@ -337,6 +340,7 @@ impl TpmRh {
     pub const Platform: TpmRh = TpmRh(0x4000000C);
 
     // Their codes, rising.
+    #[tactic(auto, unfolding(crate::specs::Codes::hierarchies))]
     pub fn named() -> [u32; 4]
         ensures { result ≡ hierarchies }
     {

@@ -68,10 +68,9 @@ fn answer(deposit: &[u8]) {
     }
 }
 
-// Answers the next deposit; None at the end of the input, and where a deposit is cut short or longer than any is.
-fn answer_next() -> Option<()> {
+// Answers the next deposit, read into space; None at the end of the input, and where a deposit is cut short or longer than any is.
+fn answer_next(space: &mut [u8]) -> Option<()> {
     let mut head = [0u8; 2];
-    let mut space = [0u8; DEPOSIT_MOST];
     let taken = io::read_full(0, &mut head);
     let (length, _) = u16::unmarshal(&head[..taken], 0).ok()?;
     let deposit = space.get_mut(..usize::from(length))?;
@@ -84,8 +83,9 @@ fn answer_next() -> Option<()> {
 
 // A proved loop has to end, and nothing says that an input does: this one has more turns than any run uses up.
 fn main() {
+    let mut space = [0u8; DEPOSIT_MOST];
     for _ in 0..u64::MAX {
-        if answer_next().is_none() {
+        if answer_next(&mut space).is_none() {
             return;
         }
     }

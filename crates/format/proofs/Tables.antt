@@ -99,7 +99,3 @@ no_pcr_properties v e = rw e
 pub no_capability : (v : ℕ) → is_cap v ≡ false → None ≡ tpmu_capabilities_arm v
 unfolding tpmu_capabilities_arm is_cap caps
 no_capability v e = none_listed tpmu_capabilities_table caps refl v e
-
--- and their codes fit in two bytes
-pub capability_small : (v : ℕ) → is_cap v ≡ true → v ≤ 10
-capability_small v e = leb-true v 10 (cap_test v ∙ e)

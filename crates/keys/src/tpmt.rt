@@ -8,6 +8,7 @@ use codes::TpmAlgId;
 use format::limits;
 use parameters::tpmu::TpmuPublicParms;
 use steps::marshal::{Listless, TpmMarshal};
+use steps::tagged::TpmTagged;
 use steps::walk::Walk;
 use wire::read::{Read, buffer};
 use wire::span::Span;

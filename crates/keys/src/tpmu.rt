@@ -1,10 +1,6 @@
-// What is unique of a public area, by the type, as the parameters are. It has the calls that a union has (ciphers, tpmu.rt).
-ghost use Rattle.std.specs.Prelude.{◌≡◌, []};
-ghost use Rattle.wire.specs.Answers.{answer};
-ghost use Rattle.wire.specs.Reading.{read};
-ghost use Rattle.wire.specs.Unions.{is_arm, held};
+// What is unique of a public area, by the type, as the parameters are. It has the calls of `TpmTagged` (steps).
+ghost use Rattle.std.specs.Prelude.{[]};
 ghost use Rattle.format.specs.Kinds.{tpmu_public_id_arm, tpmu_public_id};
-ghost use Rattle.steps.specs.Walks.{here, Walks};
 ghost use Rattle.keys.specs.Parts.{tpmu_public_id_parts};
 
 use crate::tpms::TpmsEccPoint;
@@ -13,6 +9,7 @@ use faults::Refusal;
 use format::arms::public_id_arm;
 use format::limits;
 use steps::marshal::TpmMarshal;
+use steps::tagged::TpmTagged;
 use steps::walk::Walk;
 use wire::read::{Read, buffer};
 use wire::span::Span;
@@ -28,10 +25,20 @@ pub enum TpmuPublicId {
     Null,
 }
 
-impl TpmuPublicId {
-    pub fn unmarshal_tagged(tag: TpmAlgId, s: &[u8], at: usize) -> Read<TpmuPublicId>
-        ensures { answer tpmu_public_id_parts result ≡ read (tpmu_public_id tag.0) s.now at }
-    {
+impl TpmTagged for TpmuPublicId {
+    type Tag = TpmAlgId;
+
+    ghost arm = { tpmu_public_id_arm };
+
+    ghost layout = { tpmu_public_id };
+
+    ghost parts = { tpmu_public_id_parts };
+
+    ghost lists = { λ _. [] };
+
+    ghost steps = { 3 };
+
+    fn unmarshal_tagged(tag: TpmAlgId, s: &[u8], at: usize) -> Read<Self> {
         match tag {
             TpmAlgId::KeyedHash => {
                 let (x, end) = buffer(s, at, Width::Two, limits::MAX_DIGEST_SIZE)?;
@@ -54,9 +61,7 @@ impl TpmuPublicId {
         }
     }
 
-    pub fn matches_tag(self, tag: TpmAlgId) -> bool
-        ensures { result ≡ is_arm (tpmu_public_id_arm tag.0) (held (tpmu_public_id_parts self)) }
-    {
+    fn matches_tag(self, tag: TpmAlgId) -> bool {
         match self {
             Self::KeyedHash(_) => tag.0 == TpmAlgId::KeyedHash.0,
             Self::SymCipher(_) => tag.0 == TpmAlgId::SymCipher.0,
@@ -66,9 +71,7 @@ impl TpmuPublicId {
         }
     }
 
-    pub fn walk_tagged(self, tag: TpmAlgId, w: Walk, src: &[u8], out: &mut [u8]) -> Walk
-        ensures { Walks 3 (tpmu_public_id tag.0) (tpmu_public_id_parts self) [] src.now (here w out.old) (here result out.new) }
-    {
+    fn walk_tagged(self, tag: TpmAlgId, w: Walk, src: &[u8], out: &mut [u8]) -> Walk {
         let v = w.due(tag, public_id_arm(tag), self.matches_tag(tag));
         match self {
             Self::KeyedHash(x) => v.buffer(limits::MAX_DIGEST_SIZE, x, src, out),

@@ -199,14 +199,3 @@ not_listed {text} {old} e (size, most) small =
 -- of a record, and so of a deposit
 pub deposit_listed : (d : List ℕ) {text old : List ℕ} {r : Result ℕ Refusal} {last : List ℕ} → text ≡ listing d → Lists text old r last → Lists (listing d) old r last
 deposit_listed d {old = old} {r = r} {last = last} e p = subst (λ t. Lists t old r last) e p
-
--- a listing lies in what was lent for it
-pub listed_inside : {text old last : List ℕ} {r : Result ℕ Refusal} {n : ℕ} → Lists text old r last → r ≡ Ok n → n ≤ length last
-listed_inside {text} {old} {last} {r} {n} lists given = by (leb (length text) (length old)) refl
-  where
-    by : (b : Bool) → leb (length text) (length old) ≡ b → n ≤ length last
-    by true room =
-        let size : n ≡ length text = found_same (told measure_answer given lists.answer ∙ rw room) in
-        let held : last ≡ text ++ drop (length text) old = lists.buffer ∙ rw room in
-        omega (arith, ap length held, length-append text (drop (length text) old))
-    by false room = absurd (found_refused {x = n} {f = no_room 0 (length text)} (sym (told measure_answer given lists.answer ∙ rw room)))

@@ -6,6 +6,7 @@ ghost use Rattle.parameters.specs.Parts.{tpmt_public_parms_parts};
 use crate::tpmu::TpmuPublicParms;
 use codes::TpmAlgId;
 use steps::marshal::{Listless, TpmMarshal};
+use steps::tagged::TpmTagged;
 use steps::walk::Walk;
 use wire::read::Read;
 use wire::unmarshal::TpmUnmarshal;

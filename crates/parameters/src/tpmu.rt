@@ -1,10 +1,6 @@
-// The union of parameters, by the key's type. It has the calls that a union has (ciphers, tpmu.rt).
-ghost use Rattle.std.specs.Prelude.{◌≡◌, []};
-ghost use Rattle.wire.specs.Answers.{answer};
-ghost use Rattle.wire.specs.Reading.{read};
-ghost use Rattle.wire.specs.Unions.{is_arm, held};
+// The union of parameters, by the key's type. It has the calls of `TpmTagged` (steps).
+ghost use Rattle.std.specs.Prelude.{[]};
 ghost use Rattle.format.specs.Kinds.{tpmu_public_parms_arm, tpmu_public_parms};
-ghost use Rattle.steps.specs.Walks.{here, Walks};
 ghost use Rattle.parameters.specs.Parts.{tpmu_public_parms_parts};
 
 use crate::tpms::{TpmsEccParms, TpmsKeyedhashParms, TpmsRsaParms, TpmsSymcipherParms};
@@ -12,6 +8,7 @@ use codes::TpmAlgId;
 use faults::Refusal;
 use format::arms::public_parms_arm;
 use steps::marshal::TpmMarshal;
+use steps::tagged::TpmTagged;
 use steps::walk::Walk;
 use wire::read::Read;
 use wire::unmarshal::TpmUnmarshal;
@@ -25,10 +22,20 @@ pub enum TpmuPublicParms {
     Null,
 }
 
-impl TpmuPublicParms {
-    pub fn unmarshal_tagged(tag: TpmAlgId, s: &[u8], at: usize) -> Read<TpmuPublicParms>
-        ensures { answer tpmu_public_parms_parts result ≡ read (tpmu_public_parms tag.0) s.now at }
-    {
+impl TpmTagged for TpmuPublicParms {
+    type Tag = TpmAlgId;
+
+    ghost arm = { tpmu_public_parms_arm };
+
+    ghost layout = { tpmu_public_parms };
+
+    ghost parts = { tpmu_public_parms_parts };
+
+    ghost lists = { λ _. [] };
+
+    ghost steps = { 14 };
+
+    fn unmarshal_tagged(tag: TpmAlgId, s: &[u8], at: usize) -> Read<Self> {
         match tag {
             TpmAlgId::KeyedHash => {
                 let (x, end) = TpmsKeyedhashParms::unmarshal(s, at)?;
@@ -51,9 +58,7 @@ impl TpmuPublicParms {
         }
     }
 
-    pub fn matches_tag(self, tag: TpmAlgId) -> bool
-        ensures { result ≡ is_arm (tpmu_public_parms_arm tag.0) (held (tpmu_public_parms_parts self)) }
-    {
+    fn matches_tag(self, tag: TpmAlgId) -> bool {
         match self {
             Self::KeyedHash(_) => tag.0 == TpmAlgId::KeyedHash.0,
             Self::SymCipher(_) => tag.0 == TpmAlgId::SymCipher.0,
@@ -63,9 +68,7 @@ impl TpmuPublicParms {
         }
     }
 
-    pub fn walk_tagged(self, tag: TpmAlgId, w: Walk, src: &[u8], out: &mut [u8]) -> Walk
-        ensures { Walks 14 (tpmu_public_parms tag.0) (tpmu_public_parms_parts self) [] src.now (here w out.old) (here result out.new) }
-    {
+    fn walk_tagged(self, tag: TpmAlgId, w: Walk, src: &[u8], out: &mut [u8]) -> Walk {
         let v = w.due(tag, public_parms_arm(tag), self.matches_tag(tag));
         match self {
             Self::KeyedHash(x) => x.walk(v, src, out),

@@ -37,10 +37,9 @@ fn answer_case(case: &[u8]) -> Option<()> {
     Some(())
 }
 
-// Answers the next case; None at the end of the input, and where a case is cut short.
-fn answer_next() -> Option<()> {
+// Answers the next case, read into space; None at the end of the input, and where a case is cut short or has no room there.
+fn answer_next(space: &mut [u8]) -> Option<()> {
     let mut head = [0u8; 2];
-    let mut space = [0u8; CASE_MOST];
     let taken = io::read_full(0, &mut head);
     let (length, _) = u16::unmarshal(&head[..taken], 0).ok()?;
     let case = space.get_mut(..usize::from(length))?;
@@ -52,8 +51,9 @@ fn answer_next() -> Option<()> {
 
 // A proved loop has to end, and nothing says that an input does: this one has more turns than any run uses up.
 fn main() {
+    let mut space = [0u8; CASE_MOST];
     for _ in 0..u64::MAX {
-        if answer_next().is_none() {
+        if answer_next(&mut space).is_none() {
             return;
         }
     }

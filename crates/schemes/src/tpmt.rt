@@ -6,6 +6,7 @@ ghost use Rattle.schemes.specs.Parts.{tpmt_kdf_scheme_parts, tpmt_keyedhash_sche
 use crate::tpmu::{TpmuAsymScheme, TpmuKdfScheme, TpmuKeyedhashScheme, TpmuSigScheme};
 use codes::TpmAlgId;
 use steps::marshal::{Listless, TpmMarshal};
+use steps::tagged::TpmTagged;
 use steps::walk::Walk;
 use wire::read::Read;
 use wire::unmarshal::TpmUnmarshal;

@@ -1,10 +1,7 @@
-// The unions of kinds 3 to 8. Each has the calls that a union has (ciphers, tpmu.rt).
+// The unions of kinds 3 to 8. Each has the calls of `TpmTagged` (steps).
 ghost use Rattle.std.specs.Prelude.{◌≡◌, []};
-ghost use Rattle.wire.specs.Answers.{answer};
-ghost use Rattle.wire.specs.Reading.{read};
 ghost use Rattle.wire.specs.Unions.{is_arm, held};
 ghost use Rattle.format.specs.Kinds.{tpmu_asym_scheme_arm, tpmu_sig_scheme_arm, tpmu_keyedhash_scheme_arm, tpmu_kdf_scheme_arm, tpmu_asym_scheme, tpmu_sig_scheme, tpmu_keyedhash_scheme, tpmu_kdf_scheme};
-ghost use Rattle.steps.specs.Walks.{here, Walks};
 ghost use Rattle.schemes.specs.Parts.{tpmu_asym_scheme_parts, tpmu_sig_scheme_parts, tpmu_keyedhash_scheme_parts, tpmu_kdf_scheme_parts};
 
 use crate::tpms::{TpmsSchemeEcdaa, TpmsSchemeHash, TpmsSchemeHmac, TpmsSchemeXor};
@@ -12,6 +9,7 @@ use codes::TpmAlgId;
 use faults::Refusal;
 use format::arms::{HASH, asym_scheme_arm, kdf_scheme_arm, keyedhash_scheme_arm, sig_scheme_arm};
 use steps::marshal::TpmMarshal;
+use steps::tagged::TpmTagged;
 use steps::walk::Walk;
 use wire::arms::is_arm;
 use wire::read::Read;
@@ -58,10 +56,22 @@ impl TpmuAsymScheme {
             Self::Null => is_arm(chosen, TpmAlgId::Null.0),
         }
     }
+}
 
-    pub fn unmarshal_tagged(tag: TpmAlgId, s: &[u8], at: usize) -> Read<TpmuAsymScheme>
-        ensures { answer tpmu_asym_scheme_parts result ≡ read (tpmu_asym_scheme tag.0) s.now at }
-    {
+impl TpmTagged for TpmuAsymScheme {
+    type Tag = TpmAlgId;
+
+    ghost arm = { tpmu_asym_scheme_arm };
+
+    ghost layout = { tpmu_asym_scheme };
+
+    ghost parts = { tpmu_asym_scheme_parts };
+
+    ghost lists = { λ _. [] };
+
+    ghost steps = { 3 };
+
+    fn unmarshal_tagged(tag: TpmAlgId, s: &[u8], at: usize) -> Read<Self> {
         match asym_scheme_arm(tag) {
             Some(t) => match TpmAlgId(t) {
                 TpmAlgId::Null => Ok((Self::Null, at)),
@@ -78,15 +88,11 @@ impl TpmuAsymScheme {
         }
     }
 
-    pub fn matches_tag(self, tag: TpmAlgId) -> bool
-        ensures { result ≡ is_arm (tpmu_asym_scheme_arm tag.0) (held (tpmu_asym_scheme_parts self)) }
-    {
+    fn matches_tag(self, tag: TpmAlgId) -> bool {
         self.holds(asym_scheme_arm(tag))
     }
 
-    pub fn walk_tagged(self, tag: TpmAlgId, w: Walk, src: &[u8], out: &mut [u8]) -> Walk
-        ensures { Walks 3 (tpmu_asym_scheme tag.0) (tpmu_asym_scheme_parts self) [] src.now (here w out.old) (here result out.new) }
-    {
+    fn walk_tagged(self, tag: TpmAlgId, w: Walk, src: &[u8], out: &mut [u8]) -> Walk {
         let chosen = asym_scheme_arm(tag);
         let v = w.due(tag, chosen, self.holds(chosen));
         match self {
@@ -97,10 +103,20 @@ impl TpmuAsymScheme {
     }
 }
 
-impl TpmuKeyedhashScheme {
-    pub fn unmarshal_tagged(tag: TpmAlgId, s: &[u8], at: usize) -> Read<TpmuKeyedhashScheme>
-        ensures { answer tpmu_keyedhash_scheme_parts result ≡ read (tpmu_keyedhash_scheme tag.0) s.now at }
-    {
+impl TpmTagged for TpmuKeyedhashScheme {
+    type Tag = TpmAlgId;
+
+    ghost arm = { tpmu_keyedhash_scheme_arm };
+
+    ghost layout = { tpmu_keyedhash_scheme };
+
+    ghost parts = { tpmu_keyedhash_scheme_parts };
+
+    ghost lists = { λ _. [] };
+
+    ghost steps = { 3 };
+
+    fn unmarshal_tagged(tag: TpmAlgId, s: &[u8], at: usize) -> Read<Self> {
         match tag {
             TpmAlgId::Hmac => {
                 let (x, end) = TpmsSchemeHash::unmarshal(s, at)?;
@@ -115,9 +131,7 @@ impl TpmuKeyedhashScheme {
         }
     }
 
-    pub fn matches_tag(self, tag: TpmAlgId) -> bool
-        ensures { result ≡ is_arm (tpmu_keyedhash_scheme_arm tag.0) (held (tpmu_keyedhash_scheme_parts self)) }
-    {
+    fn matches_tag(self, tag: TpmAlgId) -> bool {
         match self {
             Self::Hmac(_) => tag.0 == TpmAlgId::Hmac.0,
             Self::Xor(_) => tag.0 == TpmAlgId::Xor.0,
@@ -125,9 +139,7 @@ impl TpmuKeyedhashScheme {
         }
     }
 
-    pub fn walk_tagged(self, tag: TpmAlgId, w: Walk, src: &[u8], out: &mut [u8]) -> Walk
-        ensures { Walks 3 (tpmu_keyedhash_scheme tag.0) (tpmu_keyedhash_scheme_parts self) [] src.now (here w out.old) (here result out.new) }
-    {
+    fn walk_tagged(self, tag: TpmAlgId, w: Walk, src: &[u8], out: &mut [u8]) -> Walk {
         let v = w.due(tag, keyedhash_scheme_arm(tag), self.matches_tag(tag));
         match self {
             Self::Hmac(x) => x.walk(v, src, out),
@@ -148,10 +160,22 @@ impl TpmuSigScheme {
             Self::Null => is_arm(chosen, TpmAlgId::Null.0),
         }
     }
+}
 
-    pub fn unmarshal_tagged(tag: TpmAlgId, s: &[u8], at: usize) -> Read<TpmuSigScheme>
-        ensures { answer tpmu_sig_scheme_parts result ≡ read (tpmu_sig_scheme tag.0) s.now at }
-    {
+impl TpmTagged for TpmuSigScheme {
+    type Tag = TpmAlgId;
+
+    ghost arm = { tpmu_sig_scheme_arm };
+
+    ghost layout = { tpmu_sig_scheme };
+
+    ghost parts = { tpmu_sig_scheme_parts };
+
+    ghost lists = { λ _. [] };
+
+    ghost steps = { 3 };
+
+    fn unmarshal_tagged(tag: TpmAlgId, s: &[u8], at: usize) -> Read<Self> {
         match sig_scheme_arm(tag) {
             Some(t) => match TpmAlgId(t) {
                 TpmAlgId::Null => Ok((Self::Null, at)),
@@ -172,15 +196,11 @@ impl TpmuSigScheme {
         }
     }
 
-    pub fn matches_tag(self, tag: TpmAlgId) -> bool
-        ensures { result ≡ is_arm (tpmu_sig_scheme_arm tag.0) (held (tpmu_sig_scheme_parts self)) }
-    {
+    fn matches_tag(self, tag: TpmAlgId) -> bool {
         self.holds(sig_scheme_arm(tag))
     }
 
-    pub fn walk_tagged(self, tag: TpmAlgId, w: Walk, src: &[u8], out: &mut [u8]) -> Walk
-        ensures { Walks 3 (tpmu_sig_scheme tag.0) (tpmu_sig_scheme_parts self) [] src.now (here w out.old) (here result out.new) }
-    {
+    fn walk_tagged(self, tag: TpmAlgId, w: Walk, src: &[u8], out: &mut [u8]) -> Walk {
         let chosen = sig_scheme_arm(tag);
         let v = w.due(tag, chosen, self.holds(chosen));
         match self {
@@ -192,10 +212,20 @@ impl TpmuSigScheme {
     }
 }
 
-impl TpmuKdfScheme {
-    pub fn unmarshal_tagged(tag: TpmAlgId, s: &[u8], at: usize) -> Read<TpmuKdfScheme>
-        ensures { answer tpmu_kdf_scheme_parts result ≡ read (tpmu_kdf_scheme tag.0) s.now at }
-    {
+impl TpmTagged for TpmuKdfScheme {
+    type Tag = TpmAlgId;
+
+    ghost arm = { tpmu_kdf_scheme_arm };
+
+    ghost layout = { tpmu_kdf_scheme };
+
+    ghost parts = { tpmu_kdf_scheme_parts };
+
+    ghost lists = { λ _. [] };
+
+    ghost steps = { 2 };
+
+    fn unmarshal_tagged(tag: TpmAlgId, s: &[u8], at: usize) -> Read<Self> {
         match tag {
             TpmAlgId::Mgf1 => {
                 let (x, end) = TpmsSchemeHash::unmarshal(s, at)?;
@@ -218,9 +248,7 @@ impl TpmuKdfScheme {
         }
     }
 
-    pub fn matches_tag(self, tag: TpmAlgId) -> bool
-        ensures { result ≡ is_arm (tpmu_kdf_scheme_arm tag.0) (held (tpmu_kdf_scheme_parts self)) }
-    {
+    fn matches_tag(self, tag: TpmAlgId) -> bool {
         match self {
             Self::Mgf1(_) => tag.0 == TpmAlgId::Mgf1.0,
             Self::Kdf1Sp800_56a(_) => tag.0 == TpmAlgId::Kdf1Sp800_56A.0,
@@ -230,9 +258,7 @@ impl TpmuKdfScheme {
         }
     }
 
-    pub fn walk_tagged(self, tag: TpmAlgId, w: Walk, src: &[u8], out: &mut [u8]) -> Walk
-        ensures { Walks 2 (tpmu_kdf_scheme tag.0) (tpmu_kdf_scheme_parts self) [] src.now (here w out.old) (here result out.new) }
-    {
+    fn walk_tagged(self, tag: TpmAlgId, w: Walk, src: &[u8], out: &mut [u8]) -> Walk {
         let v = w.due(tag, kdf_scheme_arm(tag), self.matches_tag(tag));
         match self {
             Self::Mgf1(x) => x.walk(v, src, out),

@@ -7,6 +7,7 @@ use crate::tpmu::TpmuSensitiveComposite;
 use codes::TpmAlgId;
 use format::limits;
 use steps::marshal::{Listless, TpmMarshal};
+use steps::tagged::TpmTagged;
 use steps::walk::Walk;
 use wire::read::{Read, buffer};
 use wire::span::Span;

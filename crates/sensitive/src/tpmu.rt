@@ -1,16 +1,13 @@
-// What a sensitive area keeps, by its type. The union has no Null. It has the calls that a union has (ciphers, tpmu.rt).
-ghost use Rattle.std.specs.Prelude.{◌≡◌, []};
-ghost use Rattle.wire.specs.Answers.{answer};
-ghost use Rattle.wire.specs.Reading.{read};
-ghost use Rattle.wire.specs.Unions.{is_arm, held};
+// What a sensitive area keeps, by its type. The union has no Null. It has the calls of `TpmTagged` (steps).
+ghost use Rattle.std.specs.Prelude.{[]};
 ghost use Rattle.format.specs.Kinds.{tpmu_sensitive_composite_arm, tpmu_sensitive_composite};
-ghost use Rattle.steps.specs.Walks.{here, Walks};
 ghost use Rattle.sensitive.specs.Parts.{tpmu_sensitive_composite_parts};
 
 use codes::TpmAlgId;
 use faults::Refusal;
 use format::arms::sensitive_composite_arm;
 use format::limits;
+use steps::tagged::TpmTagged;
 use steps::walk::Walk;
 use wire::read::{Read, buffer};
 use wire::span::Span;
@@ -24,10 +21,20 @@ pub enum TpmuSensitiveComposite {
     Sym(Span),
 }
 
-impl TpmuSensitiveComposite {
-    pub fn unmarshal_tagged(tag: TpmAlgId, s: &[u8], at: usize) -> Read<TpmuSensitiveComposite>
-        ensures { answer tpmu_sensitive_composite_parts result ≡ read (tpmu_sensitive_composite tag.0) s.now at }
-    {
+impl TpmTagged for TpmuSensitiveComposite {
+    type Tag = TpmAlgId;
+
+    ghost arm = { tpmu_sensitive_composite_arm };
+
+    ghost layout = { tpmu_sensitive_composite };
+
+    ghost parts = { tpmu_sensitive_composite_parts };
+
+    ghost lists = { λ _. [] };
+
+    ghost steps = { 2 };
+
+    fn unmarshal_tagged(tag: TpmAlgId, s: &[u8], at: usize) -> Read<Self> {
         match tag {
             TpmAlgId::Rsa => {
                 let (x, end) = buffer(s, at, Width::Two, limits::MAX_PRIVATE_KEY_RSA)?;
@@ -49,9 +56,7 @@ impl TpmuSensitiveComposite {
         }
     }
 
-    pub fn matches_tag(self, tag: TpmAlgId) -> bool
-        ensures { result ≡ is_arm (tpmu_sensitive_composite_arm tag.0) (held (tpmu_sensitive_composite_parts self)) }
-    {
+    fn matches_tag(self, tag: TpmAlgId) -> bool {
         match self {
             Self::Rsa(_) => tag.0 == TpmAlgId::Rsa.0,
             Self::Ecc(_) => tag.0 == TpmAlgId::Ecc.0,
@@ -60,9 +65,7 @@ impl TpmuSensitiveComposite {
         }
     }
 
-    pub fn walk_tagged(self, tag: TpmAlgId, w: Walk, src: &[u8], out: &mut [u8]) -> Walk
-        ensures { Walks 2 (tpmu_sensitive_composite tag.0) (tpmu_sensitive_composite_parts self) [] src.now (here w out.old) (here result out.new) }
-    {
+    fn walk_tagged(self, tag: TpmAlgId, w: Walk, src: &[u8], out: &mut [u8]) -> Walk {
         let v = w.due(tag, sensitive_composite_arm(tag), self.matches_tag(tag));
         match self {
             Self::Rsa(x) => v.buffer(limits::MAX_PRIVATE_KEY_RSA, x, src, out),

@@ -6,6 +6,7 @@ ghost use Rattle.signatures.specs.Parts.{tpmt_signature_parts};
 use crate::tpmu::TpmuSignature;
 use codes::TpmAlgId;
 use steps::marshal::{Listless, TpmMarshal};
+use steps::tagged::TpmTagged;
 use steps::walk::Walk;
 use wire::read::Read;
 use wire::unmarshal::TpmUnmarshal;

@@ -1,10 +1,6 @@
-// The union of signatures, by the signature's algorithm. It has the calls that a union has (ciphers, tpmu.rt).
-ghost use Rattle.std.specs.Prelude.{◌≡◌, []};
-ghost use Rattle.wire.specs.Answers.{answer};
-ghost use Rattle.wire.specs.Reading.{read};
-ghost use Rattle.wire.specs.Unions.{is_arm, held};
+// The union of signatures, by the signature's algorithm. It has the calls of `TpmTagged` (steps).
+ghost use Rattle.std.specs.Prelude.{[]};
 ghost use Rattle.format.specs.Kinds.{tpmu_signature_arm, tpmu_signature};
-ghost use Rattle.steps.specs.Walks.{here, Walks};
 ghost use Rattle.signatures.specs.Parts.{tpmu_signature_parts};
 
 use crate::tpms::{TpmsSignatureEcc, TpmsSignatureRsa};
@@ -13,6 +9,7 @@ use codes::TpmAlgId;
 use faults::Refusal;
 use format::arms::signature_arm;
 use steps::marshal::TpmMarshal;
+use steps::tagged::TpmTagged;
 use steps::walk::Walk;
 use wire::read::Read;
 use wire::unmarshal::TpmUnmarshal;
@@ -29,10 +26,20 @@ pub enum TpmuSignature {
     Null,
 }
 
-impl TpmuSignature {
-    pub fn unmarshal_tagged(tag: TpmAlgId, s: &[u8], at: usize) -> Read<TpmuSignature>
-        ensures { answer tpmu_signature_parts result ≡ read (tpmu_signature tag.0) s.now at }
-    {
+impl TpmTagged for TpmuSignature {
+    type Tag = TpmAlgId;
+
+    ghost arm = { tpmu_signature_arm };
+
+    ghost layout = { tpmu_signature };
+
+    ghost parts = { tpmu_signature_parts };
+
+    ghost lists = { λ _. [] };
+
+    ghost steps = { 4 };
+
+    fn unmarshal_tagged(tag: TpmAlgId, s: &[u8], at: usize) -> Read<Self> {
         match tag {
             TpmAlgId::Rsassa => {
                 let (x, end) = TpmsSignatureRsa::unmarshal(s, at)?;
@@ -67,9 +74,7 @@ impl TpmuSignature {
         }
     }
 
-    pub fn matches_tag(self, tag: TpmAlgId) -> bool
-        ensures { result ≡ is_arm (tpmu_signature_arm tag.0) (held (tpmu_signature_parts self)) }
-    {
+    fn matches_tag(self, tag: TpmAlgId) -> bool {
         match self {
             Self::Rsassa(_) => tag.0 == TpmAlgId::Rsassa.0,
             Self::Rsapss(_) => tag.0 == TpmAlgId::Rsapss.0,
@@ -82,9 +87,7 @@ impl TpmuSignature {
         }
     }
 
-    pub fn walk_tagged(self, tag: TpmAlgId, w: Walk, src: &[u8], out: &mut [u8]) -> Walk
-        ensures { Walks 4 (tpmu_signature tag.0) (tpmu_signature_parts self) [] src.now (here w out.old) (here result out.new) }
-    {
+    fn walk_tagged(self, tag: TpmAlgId, w: Walk, src: &[u8], out: &mut [u8]) -> Walk {
         let v = w.due(tag, signature_arm(tag), self.matches_tag(tag));
         match self {
             Self::Rsassa(x) => x.walk(v, src, out),

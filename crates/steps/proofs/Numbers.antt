@@ -161,6 +161,3 @@ is_magic_lem n m told = ap (λ x. eqb x 0xFF544347) told.0
 
 pub is_yes_no_lem : (n m : ℕ) → (m ≡ n) × (n < 256 ^ 1) → leb m 1 ≡ is_yes_no n
 is_yes_no_lem n m told = ap (λ x. leb x 1) told.0 ∙ yes_or_no n
-
-pub long_numbers : (n : ℕ) (u : Walk) (out : List ℕ) (h : Here) → n < 256 ^ 8 → h ≡ number_walk true Word.Number Width.Eight n (bad_value u.at n) u out → Numbers Width.Eight free n (here u out) h
-long_numbers n u out h fits p = free_numbers Width.Eight n n u out h (refl, fits) p

@@ -6,4 +6,5 @@ pub mod line;
 pub mod marshal;
 pub mod number;
 pub mod span;
+pub mod tagged;
 pub mod walk;

@@ -1,9 +1,9 @@
 -- The fewest digits of a number, in decimal, are its text. Assumes nothing.
 use Prim.Native.Nat.{ℕ, zero, suc, ◌+◌, ◌-◌, ◌*◌, ◌/◌, ◌%◌, ◌^◌, ◌≤◌, ◌<◌}
-use native.Mathlib.Nat.{pow-suc, pow-le-pow_right, mod-eq_of_lt, div-eq_of_lt, div-div-eq-div-mul, le-div_iff_mul-le}
+use native.Mathlib.Nat.{pow-suc, pow-le-pow_right, one-le-pow, mod-eq_of_lt, div-eq_of_lt, div-div-eq-div-mul, le-div_iff_mul-le}
 use native.Mathlib.Numerals.{add-one}
 use native.Mathlib.Omega.{arith}
-use mathlib.Core.Path.{◌≡◌, refl, sym, ap, ◌∙◌}
+use mathlib.Core.Path.{◌≡◌, refl, sym, ap, ◌∙◌, subst}
 use mathlib.Core.Bool.{Bool, true, false, cond}
 use mathlib.Core.List.{List, [], ◌∷◌, ◌++◌}
 use lib.ListN.{length, take, drop, length-append}
@@ -13,20 +13,13 @@ use Rattle.io.specs.Digits.{hex_digit_ascii, last_digits as digits, IsDigitCount
 use Rattle.text.specs.Puts.{Puts}
 use Rattle.text.specs.Text.{decimal_in, decimal}
 
-some_power : (j : ℕ) → 1 ≤ 10 ^ j
-some_power zero = omega arith
-some_power (suc j) = omega (arith, pow-suc 10 j, some_power j)
-
-power_same : {a b m : ℕ} → a ≡ b → 10 ^ a ≤ m → 10 ^ b ≤ m
-power_same e h = rw (← e) h
-
 -- one digit less, of a number without its last digit
 fewer : (n j : ℕ) → IsDigitCount 10 1 n (suc (suc j)) → (10 ≤ n) × IsDigitCount 10 1 (n / 10) (suc j)
 fewer n j (least, below, above) =
     let gone : suc (suc j) - 1 ≡ suc j = omega arith in
-    let most : 10 ^ suc j ≤ n = power_same gone (above (omega arith)) in
+    let most : 10 ^ suc j ≤ n = subst (λ k. 10 ^ k ≤ n) gone (above (omega arith)) in
     let last : j ≡ suc j - 1 = omega arith in
-    (omega (arith, pow-suc 10 j, some_power j), (omega arith, omega (arith, pow-suc 10 (suc j)), λ h. power_same last (omega (arith, pow-suc 10 j))))
+    (omega (arith, pow-suc 10 j, one-le-pow j 10 (omega arith)), (omega arith, omega (arith, pow-suc 10 (suc j)), λ h. subst (λ k. 10 ^ k ≤ n / 10) last (omega (arith, pow-suc 10 j))))
 
 digits_decimal : (k most n : ℕ) → k ≤ most → IsDigitCount 10 1 n k → digits 10 k n ≡ decimal_in most n
 digits_decimal zero most n h (least, below, above) = absurd (omega arith)
@@ -142,7 +135,7 @@ module _ {n k rest : ℕ} (c : Counted n k rest) where
       by : (b : Bool) → leb (10 ^ k) n ≡ b → n < 10 ^ k
       by true e =
           let all : 10 ^ k ≤ n = leb-true (10 ^ k) n e in
-          absurd (omega (arith, c.left, (le-div_iff_mul-le {k = 10 ^ k} {x = 1} {y = n} (some_power k)).1 (omega arith)))
+          absurd (omega (arith, c.left, (le-div_iff_mul-le {k = 10 ^ k} {x = 1} {y = n} (one-le-pow k 10 (omega arith))).1 (omega arith)))
       by false e = leb-false (10 ^ k) n e
 
   pub counted_few : n < 18446744073709551616 → k ≤ 20

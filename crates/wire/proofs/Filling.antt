@@ -3,10 +3,10 @@ use Prim.Native.Nat.{ℕ, zero, suc, ◌+◌, ◌-◌, ◌≤◌, ◌<◌}
 use native.Mathlib.Nat.{add-zero, add-suc}
 use native.Mathlib.Numerals.{add-one}
 use native.Mathlib.Omega.{arith}
-use mathlib.Core.Path.{◌≡◌, refl, sym, ap, ◌∙◌}
+use mathlib.Core.Path.{◌≡◌, refl, ap, ◌∙◌}
 use mathlib.Core.Bool.{true, false}
-use mathlib.Core.List.{List, [], ◌∷◌, ◌++◌, append_assoc, append-nil}
-use lib.ListN.{length, take, drop, get_or, set, length-set, take-append-drop}
+use mathlib.Core.List.{List, [], ◌∷◌, ◌++◌, append_assoc}
+use lib.ListN.{length, take, drop, get_or, set, length-set}
 use lib.Seq.{take-suc, take-length, set_at, length-take-le, paste, paste-zero, paste-suc}
 use lib.Dec.{leb}
 use borrow.Author.Tests.{le-leb, lt-leb}
@@ -25,10 +25,6 @@ pub record Filling (spell : ℕ → ℕ → List ℕ) (old : List ℕ) (at w n :
   pub held : out ≡ take (at + j) old ++ (tail ++ drop (at + w) old)
 
 module _ {spell : ℕ → ℕ → List ℕ} where
-  pub filling_none : (old : List ℕ) (at w n : ℕ) → Filling spell old at w n old n w
-  filling_none old at w n =
-      record { most = omega arith; same = refl; tail = []; whole = sym (append-nil (spell w n)); held = sym (take-append-drop (at + w) old) }
-
   module _ {m rest : ℕ} (x : ℕ) (last : (k : ℕ) → spell (suc k) m ≡ spell k rest ++ (x ∷ [])) where
     more : (old : List ℕ) (at w n : ℕ) (out : List ℕ) (k : ℕ) → at + w ≤ length old → Filling spell old at w n out m (suc k)
         → Filling spell old at w n (set out (at + k) x) rest k

@@ -2,17 +2,11 @@
 use Prim.Native.Nat.{ℕ, ◌≤◌, ◌<◌}
 use native.Mathlib.Omega.{arith}
 use mathlib.Core.Path.{◌≡◌}
-use borrow.Author.Tests.{le-leb, lt-leb}
+use borrow.Author.Tests.{lt-leb}
 use Rattle.faults.specs.declared.Refusal.{Refusal}
-use Rattle.std.specs.Prelude.{Result, Ok, Err}
+use Rattle.std.specs.Prelude.{Result, Ok}
 use Rattle.wire.specs.Answers.{measure_answer}
 use Rattle.wire.specs.Filling.{lend}
 
-pub lends_size : (m : Result ℕ Refusal) (n there : ℕ) → m ≡ Ok n → n ≤ there → (n ≡ lend (measure_answer m) there) × (n ≤ there)
-lends_size m n there e h = (rw (e, le-leb n there h), h)
-
 pub lends_all : (m : Result ℕ Refusal) (n there : ℕ) → m ≡ Ok n → there < n → (there ≡ lend (measure_answer m) there) × (there ≤ there)
 lends_all m n there e h = (rw (e, lt-leb n there h), omega arith)
-
-pub lends_none : (m : Result ℕ Refusal) (there : ℕ) {f : Refusal} → m ≡ Err f → (0 ≡ lend (measure_answer m) there) × (0 ≤ there)
-lends_none m there e = (rw e, omega arith)

@@ -3,8 +3,9 @@
 use Prim.Native.Nat.{ℕ}
 use native.Mathlib.Omega.{arith}
 use mathlib.Core.Path.{◌≡◌, refl, sym, ap, ◌∙◌}
-use mathlib.Core.List.{List, [], ◌∷◌, ◌++◌, append-nil}
+use mathlib.Core.List.{List, [], ◌++◌, append-nil}
 use lib.ListN.{length, length-append}
+use Rattle.std.proofs.lemmas.List.{nil_from_length}
 use Rattle.faults.specs.declared.Refusal.{Refusal}
 use Rattle.wire.specs.Bytes.{Bytes, digits}
 use Rattle.wire.specs.Layout.{Layout}
@@ -40,17 +41,13 @@ none_refused l src at b none = go (read l src at) refl
     go (found r) p = absurd (none r.stops (read_sound l src at r b p))
     go (refused f) p = (f, p)
 
-pub nothing : {A : Type 0} (xs : List A) → length xs ≡ 0 → xs ≡ []
-nothing [] h = refl
-nothing (x ∷ xs) h = absurd (omega arith)
-
 -- no record goes on where another of its layout ends, and the same bytes show the same
 pub prefix_free : {l : Layout} {ts us : List Token} {bs : List ℕ} (more : List ℕ) → Spells l ts bs → Spells l us (bs ++ more) → (more ≡ []) × (ts ≡ us)
 prefix_free {l} {ts} {us} {bs} more d e =
     let s = stands_start bs more in
     let t : Stands (bs ++ more) 0 (bs ++ more) = rw append-nil at (stands_start (bs ++ more) []) in
     let (parts, stops) = parsed_same (sym (read_complete d s) ∙ read_complete e t) in
-    (nothing more (omega (arith, length-append bs more)), sym (placed_shows d s) ∙ ap (λ ps. shown (bs ++ more) ps) parts ∙ placed_shows e t)
+    (nil_from_length more (omega (arith, length-append bs more)), sym (placed_shows d s) ∙ ap (λ ps. shown (bs ++ more) ps) parts ∙ placed_shows e t)
 
 -- so no bytes are two records
 pub same_bytes_same_record : {l : Layout} {ts us : List Token} {bs : List ℕ} → Spells l ts bs → Spells l us bs → ts ≡ us

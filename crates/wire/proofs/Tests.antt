@@ -1,10 +1,9 @@
 -- Tests of the code and of the definitions that say the same. Assumes nothing.
-use Prim.Native.Nat.{ℕ, ◌-◌, ◌+◌, ◌≤◌, ◌<◌}
-use native.Mathlib.Omega.{arith}
+use Prim.Native.Nat.{ℕ, ◌≤◌}
 use mathlib.Core.Path.{◌≡◌, refl, sym, ◌∙◌}
 use mathlib.Core.Bool.{Bool, true, false}
 use lib.Dec.{leb}
-use borrow.Author.Tests.{le-leb, lt-leb, leb-true}
+use borrow.Author.Tests.{le-leb, leb-true}
 
 leb_same : (a b c d : ℕ) → (a ≤ b → c ≤ d) → (c ≤ d → a ≤ b) → leb a b ≡ leb c d
 leb_same a b c d f g = by (leb a b) (leb c d) refl refl
@@ -13,11 +12,3 @@ leb_same a b c d f g = by (leb a b) (leb c d) refl refl
     by true t p q = p ∙ sym (le-leb c d (f (leb-true a b p)))
     by false true p q = le-leb a b (g (leb-true c d q)) ∙ sym q
     by false false p q = p ∙ sym q
-
--- start + len ≤ n, without the sum
-pub inside_of : (start len n : ℕ) → start ≤ n → leb len (n - start) ≡ leb (start + len) n
-inside_of start len n h = leb_same len (n - start) (start + len) n (λ p. omega arith) (λ p. omega arith)
-
--- and a span that starts behind the end does not lie inside
-pub outside_of : (start len n : ℕ) → n < start → false ≡ leb (start + len) n
-outside_of start len n h = sym (lt-leb (start + len) n (omega arith))

@@ -9,6 +9,7 @@ use lib.ListN.{length, drop, length-append, length-drop}
 use lib.Dec.{leb}
 use borrow.Author.Tests.{lt-leb, leb-false}
 use Rattle.faults.specs.declared.Refusal.{Refusal}
+use Rattle.std.proofs.lemmas.List.{nil_from_length}
 use Rattle.wire.specs.Bytes.{Bytes}
 use Rattle.wire.specs.Layout.{Layout}
 use Rattle.wire.specs.Records.{Part, found, refused, next, Parsed, parsed, left}
@@ -18,7 +19,7 @@ use Rattle.wire.specs.Refusals.{RefusesWhole, first_fault, left_over}
 use Rattle.wire.proofs.Steps.{found_refused, parsed_same}
 use Rattle.wire.proofs.Complete.{read_complete, placed_shows}
 use Rattle.wire.proofs.Sound.{read_sound}
-use Rattle.wire.proofs.Prefix.{nothing, starts_read}
+use Rattle.wire.proofs.Prefix.{starts_read}
 use Rattle.wire.proofs.Whole.{whole_is_read, read_is_whole, read_is_trailing}
 use Rattle.wire.proofs.Refused.{refuses_read, next_refused, when_refused, read_refuses}
 
@@ -44,7 +45,7 @@ module _ (l : Layout) (src : List ℕ) (at : ℕ) where
       let (there, end) = whole_is_read l src at p in
       let x = read_sound l src at (record { parts = ps; stops = e }) b there in
       let more = x.stands.rest in
-      let none = nothing more (omega (arith, x.ends, ap length x.stands.begins, length-append x.front more, length-drop at src)) in
+      let none = nil_from_length more (omega (arith, x.ends, ap length x.stands.begins, length-append x.front more, length-drop at src)) in
       let all : drop at src ≡ x.front = x.stands.begins ∙ ap (λ t. x.front ++ t) none ∙ append-nil x.front in
       let d : Spells l x.tokens (drop at src) = rw all x.spells in
       let same = all_is_read d there in

@@ -3,12 +3,13 @@ use Prim.Native.Nat.{ℕ, ◌+◌, ◌-◌, ◌^◌, ◌≤◌, ◌<◌}
 use native.Mathlib.Nat.{zero-add}
 use native.Mathlib.Omega.{arith}
 use mathlib.Core.Path.{◌≡◌, refl, sym, ap, ◌∙◌}
-use mathlib.Core.Bool.{Bool, true, false, ◌&&◌, false≢true}
+use mathlib.Core.Bool.{true, ◌&&◌}
 use mathlib.Core.List.{List, [], ◌∷◌, ◌++◌, append-nil}
 use lib.ListN.{length, take, drop}
 use lib.Seq.{take_all}
 use lib.Dec.{leb, ltb, eqb}
 use borrow.Author.Tests.{le-leb, lt-ltb, eq-eqb, leb-true, ltb-true, eqb-true}
+use Rattle.std.proofs.lemmas.Bool.{and_parts}
 use Rattle.wire.specs.Bytes.{Bytes, digits}
 use Rattle.wire.specs.Layout.{Rule, Layout, stop, no_arm, arm, number, plain, buffer, counted, length_to, allows}
 use Rattle.wire.specs.Records.{Part, num, tag, span, Ans, found, refused, Parsed, parsed}
@@ -75,10 +76,6 @@ read_then_lay l src start at r b i p =
 
 -- ---- the writer's steps, where they wrote something
 
-both_true : (s t : Bool) → (s && t) ≡ true → (s ≡ true) × (t ≡ true)
-both_true true t e = (refl, e)
-both_true false t e = absurd (false≢true e)
-
 ahead_found : (a k : Ans (List ℕ)) {bs : List ℕ} → ahead a k ≡ found bs → (xs : List ℕ) × (ys : List ℕ) × (a ≡ found xs) × (k ≡ found ys) × (bs ≡ xs ++ ys)
 ahead_found a k p =
     let (xs, e, q) = next_found a _ p in
@@ -89,7 +86,7 @@ pub spelt_found : (w : ℕ) (r : Rule) (n at : ℕ) {xs : List ℕ} → spelt w 
 unfolding spelt
 spelt_found w r n at p =
     let (t, e) = when_found (allows r n && ltb n (256 ^ w)) _ _ p in
-    let (a, f) = both_true (allows r n) (ltb n (256 ^ w)) t in
+    let (a, f) = and_parts (allows r n) (ltb n (256 ^ w)) t in
     (ltb-true n (256 ^ w) f, a, sym (found_same e))
 
 pub cut_found : (src : List ℕ) (start len at : ℕ) {xs : List ℕ} → cut src start len at ≡ found xs → (length xs ≡ len) × Stands src start xs × (take len (drop start src) ≡ xs)

@@ -1,0 +1,25 @@
+-- The selector is held against the arm's own code. Assumes nothing.
+use Rattle.format.specs.Kinds.{tpmu_public_id_table, tpmu_public_id_arm}
+use Rattle.steps.proofs.Matches.{by_code}
+use Rattle.keys.specs.Parts.{tpmu_public_id_parts}
+use Rattle.keys.proofs.tpmu.TpmuPublicIdTpmTagged.matches_tag.Goals as goal
+
+pub returns-in-KeyedHash : goal.returns-in-KeyedHash
+unfolding tpmu_public_id_arm
+returns-in-KeyedHash c = search (by_code tpmu_public_id_parts tpmu_public_id_table)
+
+pub returns-in-SymCipher : goal.returns-in-SymCipher
+unfolding tpmu_public_id_arm
+returns-in-SymCipher c = search (by_code tpmu_public_id_parts tpmu_public_id_table)
+
+pub returns-in-Rsa : goal.returns-in-Rsa
+unfolding tpmu_public_id_arm
+returns-in-Rsa c = search (by_code tpmu_public_id_parts tpmu_public_id_table)
+
+pub returns-in-Ecc : goal.returns-in-Ecc
+unfolding tpmu_public_id_arm
+returns-in-Ecc c = search (by_code tpmu_public_id_parts tpmu_public_id_table)
+
+pub returns-in-Null : goal.returns-in-Null
+unfolding tpmu_public_id_arm
+returns-in-Null c = search (by_code tpmu_public_id_parts tpmu_public_id_table)

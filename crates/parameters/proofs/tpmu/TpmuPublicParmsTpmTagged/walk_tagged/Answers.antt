@@ -1,0 +1,25 @@
+-- The fields of the arm that is held, behind where it is due. Assumes nothing.
+use Rattle.format.specs.Kinds.{tpmu_public_parms_arm, tpmu_public_parms_body, tpmu_public_parms}
+use Rattle.steps.proofs.Search.{by_arm, walking}
+use Rattle.parameters.specs.Parts.{tpmu_public_parms_parts}
+use Rattle.parameters.proofs.tpmu.TpmuPublicParmsTpmTagged.walk_tagged.Goals as goal
+
+pub returns-in-KeyedHash : goal.returns-in-KeyedHash
+unfolding tpmu_public_parms
+returns-in-KeyedHash c = search (by_arm tpmu_public_parms_parts tpmu_public_parms_arm tpmu_public_parms_body, walking)
+
+pub returns-in-SymCipher : goal.returns-in-SymCipher
+unfolding tpmu_public_parms
+returns-in-SymCipher c = search (by_arm tpmu_public_parms_parts tpmu_public_parms_arm tpmu_public_parms_body, walking)
+
+pub returns-in-Rsa : goal.returns-in-Rsa
+unfolding tpmu_public_parms
+returns-in-Rsa c = search (by_arm tpmu_public_parms_parts tpmu_public_parms_arm tpmu_public_parms_body, walking)
+
+pub returns-in-Ecc : goal.returns-in-Ecc
+unfolding tpmu_public_parms
+returns-in-Ecc c = search (by_arm tpmu_public_parms_parts tpmu_public_parms_arm tpmu_public_parms_body, walking)
+
+pub returns-in-Null : goal.returns-in-Null
+unfolding tpmu_public_parms
+returns-in-Null c = search (by_arm tpmu_public_parms_parts tpmu_public_parms_arm tpmu_public_parms_body, walking)

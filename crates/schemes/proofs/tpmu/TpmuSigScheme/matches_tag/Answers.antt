@@ -1,7 +1,0 @@
--- The payload is held against the arm that the selector chooses. Assumes nothing.
-use Rattle.wire.proofs.Search.{is_arm_lem}
-use Rattle.schemes.specs.Parts.{tpmu_sig_scheme_parts}
-use Rattle.schemes.proofs.tpmu.TpmuSigScheme.matches_tag.Goals as goal
-
-pub returns : goal.returns
-returns c = search (is_arm_lem tpmu_sig_scheme_parts)
