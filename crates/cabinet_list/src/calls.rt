@@ -2,18 +2,16 @@
 ghost use Rattle.std.specs.Prelude.{length};
 ghost use Rattle.cabinet_list.specs.Calls.{MovedWithin, TakenWithin};
 
-use std::io;
-use std::io::{Error, ErrorKind, Read, Write};
+use std::io::{self, Error, ErrorKind, Read, Write};
 
 // What a call came to: how many bytes it moved, or nothing, if a signal broke it off; or why it failed.
 fn came(got: io::Result<usize>, buf: &[u8]) -> io::Result<Option<usize>>
     ensures { MovedWithin result (length buf.now) }
 {
-    match got {
-        Ok(n) => Ok(Some(n.min(buf.len()))),
-        Err(why) if why.kind() == ErrorKind::Interrupted => Ok(None),
-        Err(why) => Err(why),
+    if got.is_err_and(|why| why.kind() == ErrorKind::Interrupted) {
+        return Ok(None);
     }
+    Ok(Some(got?.min(buf.len())))
 }
 
 fn read_some<R: Read>(from: &mut R, buf: &mut [u8]) -> io::Result<Option<usize>>

@@ -25,6 +25,9 @@ const ROW_ROOM: usize = ROW_MOST + 1;
 // Room for the line in front of a record, at most 52 bytes, and for every listing behind it.
 const ENTRY_ROOM: usize = 52 + LISTING_ROOM;
 
+// Room for the line of a refusal.
+const REFUSAL_ROOM: usize = 131;
+
 fn row_room() -> [u8; ROW_ROOM]
     ensures { 1048577 ≡ length result }
 {
@@ -81,7 +84,7 @@ fn list_row(rt: HostRuntime, kind: u8, s: &[u8], n: usize) -> Outcome
 }
 
 fn refuse_row(rt: HostRuntime, kind: u8, refusal: Refusal) -> Outcome {
-    let mut line = [0u8; 131];
+    let mut line = [0u8; REFUSAL_ROOM];
     let n = fit_answer(Answer::Refused { kind, refusal }, &mut line, 0);
     write_listing(rt, &line[..n], Outcome::Refused)
 }

@@ -7,6 +7,7 @@ use std::io::{Error, ErrorKind, Write};
 use std::os::fd::AsFd;
 use std_io::io::last_error;
 
+// Every record was read, one was refused, or there was trouble.
 #[derive(Clone, Copy)]
 pub enum Outcome {
     Read,
@@ -40,13 +41,10 @@ fn put_reason(why: Error, out: &mut [u8]) -> usize
 
 // Of a reason the words alone: the number that the library puts behind the system's words is left out.
 fn words_of(reason: &[u8]) -> &[u8] {
-    match std::str::from_utf8(reason) {
-        Ok(text) => match text.split_once(" (os error ") {
-            Some((words, _)) => words.as_bytes(),
-            None => reason,
-        },
-        Err(_) => reason,
-    }
+    std::str::from_utf8(reason)
+        .ok()
+        .and_then(|text| text.split_once(" (os error "))
+        .map_or(reason, |(words, _)| words.as_bytes())
 }
 
 // A call failed: what it was about, and the system's words for why.
@@ -74,12 +72,19 @@ pub fn unwritten(rt: HostRuntime, why: Error) -> Outcome {
     failed(rt, b"cabinet-list: standard output", why)
 }
 
+// Whether a call failed for want of what it looked for, or why else.
+fn found_nothing(why: Error) -> Result<(), Error> {
+    match why.kind() {
+        ErrorKind::NotFound => Ok(()),
+        _ => Err(why),
+    }
+}
+
 // Makes a call that fails in a known way: no file has an empty name. After it the last call that failed is one that found nothing.
 fn mark(rt: HostRuntime) -> Result<(), Error> {
     match fs::metadata(&rt, "") {
         Ok(_) => Err(Error::from(ErrorKind::Other)),
-        Err(why) if why.kind() == ErrorKind::NotFound => Ok(()),
-        Err(why) => Err(why),
+        Err(why) => found_nothing(why),
     }
 }
 
@@ -89,12 +94,7 @@ fn closed(rt: HostRuntime) -> Result<(), Error> {
     let second = rt.stdout().as_fd().try_clone_to_owned()?;
     mark(rt)?;
     drop(second);
-    let why = last_error();
-    if why.kind() == ErrorKind::NotFound {
-        Ok(())
-    } else {
-        Err(why)
-    }
+    found_nothing(last_error())
 }
 
 // Whether it is written, or why it is not.

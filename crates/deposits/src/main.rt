@@ -61,10 +61,10 @@ fn write_again(kind: u8, bytes: &[u8]) -> Option<()> {
 
 fn answer(deposit: &[u8]) {
     write_listing(deposit);
-    if let [kind, bytes @ ..] = deposit {
-        if bytes.len() <= RECORD_MOST {
-            write_again(*kind, bytes);
-        }
+    if let [kind, bytes @ ..] = deposit
+        && bytes.len() <= RECORD_MOST
+    {
+        write_again(*kind, bytes);
     }
 }
 

@@ -15,7 +15,6 @@ use Rattle.wire.specs.Bytes.{Bytes}
 use Rattle.wire.specs.Records.{Ans, Part, found, refused, Parsed, parsed}
 use Rattle.wire.specs.Reading.{end_of}
 use Rattle.wire.specs.Answers.{measure_answer}
-use Rattle.wire.proofs.Rest.{told}
 use Rattle.wire.proofs.Steps.{found_refused, found_same, refused_same, next_found, when_found}
 use Rattle.format.specs.Kinds.{is_kind, layout_of, read_kind}
 use Rattle.format.proofs.Greatest.{no_record_is_larger}

@@ -6,10 +6,10 @@ use text::answer::{Answer, fit_answer};
 pub const UNTOUCHED: usize = 0xa5a5a5a5a5a5a5a5;
 
 // No line of an answer is longer.
-const MOST_LINE: usize = 131;
+const LINE_MOST: usize = 131;
 
 pub fn say(answer: Answer) {
-    let mut line = [0u8; MOST_LINE];
+    let mut line = [0u8; LINE_MOST];
     let n = fit_answer(answer, &mut line, 0);
     if let Some(text) = line.get(..n) {
         io::write_all(1, text);
