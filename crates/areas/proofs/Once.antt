@@ -1,8 +1,10 @@
--- The parts of each type determine it. Assumes nothing.
+-- The parts of each type determine it, and no two answers of this crate mean the same. Assumes nothing.
 use mathlib.Core.Path.{refl}
 use mathlib.Core.List.{[], ◌∷◌}
 use Rattle.wire.specs.Records.{num}
-use Rattle.wire.proofs.Once.{Once, number_once, span_once, both, fields, holds, union}
+use Rattle.wire.proofs.Once.{Injective, Once, number_once, span_once, both, fields, holds, union}
+use Rattle.wire.proofs.Answers.{answer_once}
+use Rattle.wire.specs.Answers.{answer}
 use Rattle.codes.specs.Codes.{ht_nv_index, ht_external_nv, ht_permanent_nv}
 use Rattle.codes.proofs.Once.{tpm_alg_id_once, tpm_st_once, tpm_ht_once, tpm_rh_once}
 use Rattle.areas.specs.declared.tpms.TpmaNv.{TpmaNv}
@@ -61,3 +63,35 @@ tpmt_tk_hashcheck_once = fields (λ x. (x.tag, (x.hierarchy, x.digest))) (λ (a,
 
 pub tpmt_tk_auth_once : Once tpmt_tk_auth_parts
 tpmt_tk_auth_once = fields (λ x. (x.tag, (x.hierarchy, x.digest))) (λ (a, (b, c)). record { tag = a; hierarchy = b; digest = c }) (λ x. refl) (both tpm_st_once (both tpm_rh_once span_once))
+
+-- ---- and so no two answers of a reader of one mean the same
+
+pub ticket_body_answer_once : Injective (answer ticket_body_parts)
+ticket_body_answer_once = answer_once ticket_body_once
+
+pub nv_public_tail_answer_once : Injective (answer nv_public_tail_parts)
+nv_public_tail_answer_once = answer_once nv_public_tail_once
+
+pub tpms_nv_public_answer_once : Injective (answer tpms_nv_public_parts)
+tpms_nv_public_answer_once = answer_once tpms_nv_public_once
+
+pub tpms_nv_public_exp_attr_answer_once : Injective (answer tpms_nv_public_exp_attr_parts)
+tpms_nv_public_exp_attr_answer_once = answer_once tpms_nv_public_exp_attr_once
+
+pub tpmu_nv_public2_answer_once : Injective (answer tpmu_nv_public2_parts)
+tpmu_nv_public2_answer_once = answer_once tpmu_nv_public2_once
+
+pub tpmt_nv_public2_answer_once : Injective (answer tpmt_nv_public2_parts)
+tpmt_nv_public2_answer_once = answer_once tpmt_nv_public2_once
+
+pub tpmt_tk_creation_answer_once : Injective (answer tpmt_tk_creation_parts)
+tpmt_tk_creation_answer_once = answer_once tpmt_tk_creation_once
+
+pub tpmt_tk_verified_answer_once : Injective (answer tpmt_tk_verified_parts)
+tpmt_tk_verified_answer_once = answer_once tpmt_tk_verified_once
+
+pub tpmt_tk_hashcheck_answer_once : Injective (answer tpmt_tk_hashcheck_parts)
+tpmt_tk_hashcheck_answer_once = answer_once tpmt_tk_hashcheck_once
+
+pub tpmt_tk_auth_answer_once : Injective (answer tpmt_tk_auth_parts)
+tpmt_tk_auth_answer_once = answer_once tpmt_tk_auth_once

@@ -1,7 +1,9 @@
--- The parts of each type determine it. Assumes nothing.
+-- The parts of each type determine it, and no two answers of this crate mean the same. Assumes nothing.
 use mathlib.Core.Path.{refl}
 use mathlib.Core.List.{[], ◌∷◌}
-use Rattle.wire.proofs.Once.{Once, number_once, span_once, both, fields, holds, union}
+use Rattle.wire.proofs.Once.{Injective, Once, number_once, span_once, both, fields, holds, union}
+use Rattle.wire.proofs.Answers.{answer_once}
+use Rattle.wire.specs.Answers.{answer}
 use Rattle.codes.specs.Codes.{attest_nv, attest_command_audit, attest_session_audit, attest_certify, attest_quote, attest_time, attest_creation, attest_nv_digest}
 use Rattle.codes.proofs.Once.{tpm_alg_id_once, tpm_st_once}
 use Rattle.attest.specs.declared.tpmu.TpmuAttest.{TpmuAttest}
@@ -73,3 +75,44 @@ tpmu_attest_once =
 
 pub tpms_attest_once : Once tpms_attest_parts
 tpms_attest_once = fields (λ s. (s.magic, (s.attest_type, (s.qualified_signer, (s.extra_data, (s.clock_info, (s.firmware_version, s.attested))))))) (λ (a, (b, (c, (d, (e, (f, g)))))). record { magic = a; attest_type = b; qualified_signer = c; extra_data = d; clock_info = e; firmware_version = f; attested = g }) (λ s. refl) (both number_once (both tpm_st_once (both span_once (both span_once (both tpms_clock_info_once (both number_once tpmu_attest_once))))))
+
+-- ---- and so no two answers of a reader of one mean the same
+
+pub tpml_pcr_selection_answer_once : Injective (answer tpml_pcr_selection_parts)
+tpml_pcr_selection_answer_once = answer_once tpml_pcr_selection_once
+
+pub tpms_clock_info_answer_once : Injective (answer tpms_clock_info_parts)
+tpms_clock_info_answer_once = answer_once tpms_clock_info_once
+
+pub tpms_time_info_answer_once : Injective (answer tpms_time_info_parts)
+tpms_time_info_answer_once = answer_once tpms_time_info_once
+
+pub tpms_certify_info_answer_once : Injective (answer tpms_certify_info_parts)
+tpms_certify_info_answer_once = answer_once tpms_certify_info_once
+
+pub tpms_creation_info_answer_once : Injective (answer tpms_creation_info_parts)
+tpms_creation_info_answer_once = answer_once tpms_creation_info_once
+
+pub tpms_quote_info_answer_once : Injective (answer tpms_quote_info_parts)
+tpms_quote_info_answer_once = answer_once tpms_quote_info_once
+
+pub tpms_command_audit_info_answer_once : Injective (answer tpms_command_audit_info_parts)
+tpms_command_audit_info_answer_once = answer_once tpms_command_audit_info_once
+
+pub tpms_session_audit_info_answer_once : Injective (answer tpms_session_audit_info_parts)
+tpms_session_audit_info_answer_once = answer_once tpms_session_audit_info_once
+
+pub tpms_time_attest_info_answer_once : Injective (answer tpms_time_attest_info_parts)
+tpms_time_attest_info_answer_once = answer_once tpms_time_attest_info_once
+
+pub tpms_nv_certify_info_answer_once : Injective (answer tpms_nv_certify_info_parts)
+tpms_nv_certify_info_answer_once = answer_once tpms_nv_certify_info_once
+
+pub tpms_nv_digest_certify_info_answer_once : Injective (answer tpms_nv_digest_certify_info_parts)
+tpms_nv_digest_certify_info_answer_once = answer_once tpms_nv_digest_certify_info_once
+
+pub tpmu_attest_answer_once : Injective (answer tpmu_attest_parts)
+tpmu_attest_answer_once = answer_once tpmu_attest_once
+
+pub tpms_attest_answer_once : Injective (answer tpms_attest_parts)
+tpms_attest_answer_once = answer_once tpms_attest_once

@@ -1,12 +1,13 @@
 -- The size in front of a record, as it is read. Assumes nothing.
-use Prim.Native.Nat.{ℕ}
+use Prim.Native.Nat.{ℕ, ◌-◌, ◌≤◌}
 use native.Mathlib.Omega.{arith}
 use borrow.Author.Tests.{leb-true, leb-false}
 use mathlib.Core.Path.{◌≡◌, refl, sym, ap, ◌∙◌}
 use mathlib.Core.Bool.{Bool, true, false}
 use mathlib.Core.List.{List, [], ◌∷◌}
-use lib.ListN.{length, take}
+use lib.ListN.{length, take, drop}
 use lib.Dec.{leb}
+use lib.Seq.{take_all}
 use Rattle.std.specs.Prelude.{Some, None}
 use Rattle.faults.specs.declared.Refusal.{Refusal}
 use Rattle.wire.specs.Bytes.{be}
@@ -36,3 +37,9 @@ size_short bs p = by (leb 2 (length bs)) refl
     by : (b : Bool) → leb 2 (length bs) ≡ b → None ≡ size_in bs
     by true t = absurd (found_refused (p ∙ sym (one_there 2 bs 0 {v = be (take 2 bs)} (omega (arith, leb-true 2 (length bs) t)) refl)))
     by false t = rw t
+
+-- what stands behind the size
+pub behind_all_lem : (bs : List ℕ) → 2 ≤ length bs → take (length bs - 2) (drop 2 bs) ≡ drop 2 bs
+behind_all_lem [] some = absurd (omega arith)
+behind_all_lem (a ∷ []) some = absurd (omega arith)
+behind_all_lem (a ∷ b ∷ bs) some = take_all (length (a ∷ b ∷ bs) - 2) bs (omega arith)

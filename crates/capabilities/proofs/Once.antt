@@ -1,8 +1,9 @@
 -- The parts of a record determine it, and no two answers of a reader mean the same. Assumes nothing.
 use mathlib.Core.Path.{refl}
 use mathlib.Core.List.{[], ◌∷◌}
-use Rattle.wire.specs.Answers.{span_part}
-use Rattle.wire.proofs.Once.{Once, span_once, both, fields, union, holds}
+use Rattle.wire.specs.Answers.{answer, span_part}
+use Rattle.wire.proofs.Once.{Injective, Once, span_once, both, fields, union, holds}
+use Rattle.wire.proofs.Answers.{answer_once}
 use Rattle.codes.specs.Codes.{cap_algs, cap_handles, cap_commands, cap_pp_commands, cap_audit_commands, cap_pcrs, cap_tpm_properties, cap_ecc_curves, cap_auth_policies, cap_act}
 use Rattle.codes.proofs.Once.{tpm_cap_once}
 use Rattle.attest.proofs.Once.{tpml_pcr_selection_once}
@@ -76,3 +77,11 @@ tpmu_capabilities_once =
 
 pub tpms_capability_data_once : Once tpms_capability_data_parts
 tpms_capability_data_once = fields (λ s. (s.capability, s.«data»)) (λ (a, b). record { capability = a; «data» = b }) (λ s. refl) (both tpm_cap_once tpmu_capabilities_once)
+
+-- ---- and so no two answers of a reader of one mean the same
+
+pub tpmu_capabilities_answer_once : Injective (answer tpmu_capabilities_parts)
+tpmu_capabilities_answer_once = answer_once tpmu_capabilities_once
+
+pub tpms_capability_data_answer_once : Injective (answer tpms_capability_data_parts)
+tpms_capability_data_answer_once = answer_once tpms_capability_data_once

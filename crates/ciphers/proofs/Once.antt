@@ -1,11 +1,12 @@
--- The parts of each type determine it. Assumes nothing.
+-- The parts of each type determine it, and no two answers of this crate mean the same. Assumes nothing.
 use mathlib.Core.Path.{refl}
 use mathlib.Core.Bool.{cond}
 use mathlib.Core.List.{[], ◌∷◌}
 use lib.Dec.{eqb}
-use Rattle.wire.proofs.Once.{Once, number_once, span_once, both, fields, holds, bare, tagged, union}
+use Rattle.wire.proofs.Once.{Injective, Once, number_once, span_once, both, fields, holds, bare, tagged, union}
+use Rattle.wire.proofs.Answers.{answer_once}
 use Rattle.codes.specs.Codes.{aes, xor, null, sm4, camellia}
-use Rattle.wire.specs.Answers.{len_of}
+use Rattle.wire.specs.Answers.{answer, len_of}
 use Rattle.codes.proofs.Digests.{digest_not_empty}
 use Rattle.codes.proofs.Once.{tpm_alg_id_once}
 use Rattle.ciphers.specs.declared.tpmu.TpmuHa.{TpmuHa}
@@ -61,3 +62,20 @@ tpmt_ha_once = fields (λ s. (s.hash_alg, s.digest)) (λ (a, b). record { hash_a
 
 pub tpmt_sym_def_once : Once tpmt_sym_def_parts
 tpmt_sym_def_once = fields (λ s. (s.algorithm, (s.key_bits, s.mode))) (λ (a, (k, m)). record { algorithm = a; key_bits = k; mode = m }) (λ s. refl) (both tpm_alg_id_once (both tpmu_sym_key_bits_once tpmu_sym_mode_once))
+
+-- ---- and so no two answers of a reader of one mean the same
+
+pub tpmu_ha_answer_once : Injective (answer tpmu_ha_parts)
+tpmu_ha_answer_once = answer_once tpmu_ha_once
+
+pub tpmu_sym_key_bits_answer_once : Injective (answer tpmu_sym_key_bits_parts)
+tpmu_sym_key_bits_answer_once = answer_once tpmu_sym_key_bits_once
+
+pub tpmu_sym_mode_answer_once : Injective (answer tpmu_sym_mode_parts)
+tpmu_sym_mode_answer_once = answer_once tpmu_sym_mode_once
+
+pub tpmt_ha_answer_once : Injective (answer tpmt_ha_parts)
+tpmt_ha_answer_once = answer_once tpmt_ha_once
+
+pub tpmt_sym_def_answer_once : Injective (answer tpmt_sym_def_parts)
+tpmt_sym_def_answer_once = answer_once tpmt_sym_def_once

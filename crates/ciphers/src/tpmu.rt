@@ -107,7 +107,7 @@ impl TpmTagged for TpmuSymKeyBits {
                 Ok((Self::Aes(bits), end))
             }
             TpmAlgId::Sm4 => {
-                let (bits, end) = u16::unmarshal(s, at)?;
+                let (bits, end) = u16::unmarshal(s, at)?; // key bits, of which Null has none
                 Ok((Self::Sm4(bits), end))
             }
             TpmAlgId::Camellia => {
@@ -178,7 +178,7 @@ impl TpmTagged for TpmuSymMode {
                 Ok((Self::Aes(mode), end))
             }
             TpmAlgId::Sm4 => {
-                let (mode, end) = TpmAlgId::unmarshal(s, at)?;
+                let (mode, end) = TpmAlgId::unmarshal(s, at)?; // a mode, of which Xor has none
                 Ok((Self::Sm4(mode), end))
             }
             TpmAlgId::Camellia => {

@@ -596,6 +596,6 @@ impl TpmUnmarshal for TpmRh {
     ghost parts = { tpm_rh_parts };
 
     fn unmarshal(s: &[u8], at: usize) -> Read<Self> {
-        read_code(s, at)
+        read_code::<TpmRh>(s, at)
     }
 }

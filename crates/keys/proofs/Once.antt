@@ -1,7 +1,9 @@
--- The parts of each type determine it. Assumes nothing.
+-- The parts of each type determine it, and no two answers of this crate mean the same. Assumes nothing.
 use mathlib.Core.Path.{refl}
 use mathlib.Core.List.{[], ◌∷◌}
-use Rattle.wire.proofs.Once.{Once, number_once, span_once, both, fields, holds, bare, union}
+use Rattle.wire.proofs.Once.{Injective, Once, number_once, span_once, both, fields, holds, bare, union}
+use Rattle.wire.proofs.Answers.{answer_once}
+use Rattle.wire.specs.Answers.{answer}
 use Rattle.wire.specs.Records.{num}
 use Rattle.codes.specs.Codes.{rsa, keyed_hash, null, ecc, sym_cipher}
 use Rattle.codes.proofs.Once.{tpm_alg_id_once}
@@ -41,3 +43,14 @@ tpma_object_once = fields (λ a. a.0) (λ n. record { 0 = n }) (λ a. refl) numb
 
 pub tpmt_public_once : Once tpmt_public_parts
 tpmt_public_once = fields (λ s. (s.object_type, (s.name_alg, (s.object_attributes, (s.auth_policy, (s.parameters, s.unique)))))) (λ (a, (b, (c, (d, (e, f))))). record { object_type = a; name_alg = b; object_attributes = c; auth_policy = d; parameters = e; unique = f }) (λ s. refl) (both tpm_alg_id_once (both tpm_alg_id_once (both tpma_object_once (both span_once (both tpmu_public_parms_once tpmu_public_id_once)))))
+
+-- ---- and so no two answers of a reader of one mean the same
+
+pub tpms_ecc_point_answer_once : Injective (answer tpms_ecc_point_parts)
+tpms_ecc_point_answer_once = answer_once tpms_ecc_point_once
+
+pub tpmu_public_id_answer_once : Injective (answer tpmu_public_id_parts)
+tpmu_public_id_answer_once = answer_once tpmu_public_id_once
+
+pub tpmt_public_answer_once : Injective (answer tpmt_public_parts)
+tpmt_public_answer_once = answer_once tpmt_public_once

@@ -1,7 +1,9 @@
--- The parts of each type determine it. Assumes nothing.
+-- The parts of each type determine it, and no two answers of this crate mean the same. Assumes nothing.
 use mathlib.Core.Path.{refl}
 use mathlib.Core.List.{[], ◌∷◌}
-use Rattle.wire.proofs.Once.{Once, number_once, both, fields, holds, bare, union}
+use Rattle.wire.proofs.Once.{Injective, Once, number_once, both, fields, holds, bare, union}
+use Rattle.wire.proofs.Answers.{answer_once}
+use Rattle.wire.specs.Answers.{answer}
 use Rattle.codes.specs.Codes.{rsa, keyed_hash, null, ecc, sym_cipher}
 use Rattle.codes.proofs.Once.{tpm_alg_id_once, tpm_ecc_curve_once}
 use Rattle.ciphers.proofs.Once.{tpmt_sym_def_once}
@@ -46,3 +48,23 @@ tpmu_public_parms_once =
 
 pub tpmt_public_parms_once : Once tpmt_public_parms_parts
 tpmt_public_parms_once = fields (λ s. (s.object_type, s.parameters)) (λ (a, b). record { object_type = a; parameters = b }) (λ s. refl) (both tpm_alg_id_once tpmu_public_parms_once)
+
+-- ---- and so no two answers of a reader of one mean the same
+
+pub tpms_keyedhash_parms_answer_once : Injective (answer tpms_keyedhash_parms_parts)
+tpms_keyedhash_parms_answer_once = answer_once tpms_keyedhash_parms_once
+
+pub tpms_symcipher_parms_answer_once : Injective (answer tpms_symcipher_parms_parts)
+tpms_symcipher_parms_answer_once = answer_once tpms_symcipher_parms_once
+
+pub tpms_rsa_parms_answer_once : Injective (answer tpms_rsa_parms_parts)
+tpms_rsa_parms_answer_once = answer_once tpms_rsa_parms_once
+
+pub tpms_ecc_parms_answer_once : Injective (answer tpms_ecc_parms_parts)
+tpms_ecc_parms_answer_once = answer_once tpms_ecc_parms_once
+
+pub tpmu_public_parms_answer_once : Injective (answer tpmu_public_parms_parts)
+tpmu_public_parms_answer_once = answer_once tpmu_public_parms_once
+
+pub tpmt_public_parms_answer_once : Injective (answer tpmt_public_parms_parts)
+tpmt_public_parms_answer_once = answer_once tpmt_public_parms_once

@@ -6,6 +6,7 @@ ghost use Rattle.format.specs.Kinds.{layout_of};
 ghost use Rattle.format.specs.Numbers.{number_of};
 ghost use Rattle.records.specs.Ends.{Ends};
 
+use crate::read::record_read;
 use areas::tpmt::{TpmtNvPublic2, TpmtTkAuth, TpmtTkCreation, TpmtTkHashcheck, TpmtTkVerified};
 use attest::attestation::TpmsAttest;
 use attest::list::TpmlPcrSelection;
@@ -22,32 +23,40 @@ use sensitive::tpmt::TpmtSensitive;
 use signatures::tpmt::TpmtSignature;
 use wire::unmarshal::TpmUnmarshal;
 
-// By the kind's own reader.
+// By the type's reader, whose contract says what its answer means.
+fn end_of<T: TpmUnmarshal>(s: &[u8], at: usize) -> Result<usize, Refusal>
+    ensures { measure_answer result ≡ end_of (read T.layout s.now at) }
+{
+    let (_, end) = record_read::<T>(s, at)?;
+    Ok(end)
+}
+
+// That of the kind's own type.
 #[tactic(auto, unfolding(format::specs::Kinds::layout_of, format::specs::Kinds::kinds))]
 fn end_by_kind(kind: Kind, s: &[u8], at: usize) -> Result<usize, Refusal>
     ensures { measure_answer result ≡ end_of (read (layout_of (number_of kind)) s.now at) }
 {
     match kind {
-        Kind::TpmtHa => TpmtHa::end(s, at),
-        Kind::TpmtSymDef => TpmtSymDef::end(s, at),
-        Kind::TpmtKdfScheme => TpmtKdfScheme::end(s, at),
-        Kind::TpmtKeyedhashScheme => TpmtKeyedhashScheme::end(s, at),
-        Kind::TpmtSigScheme => TpmtSigScheme::end(s, at),
-        Kind::TpmtRsaScheme => TpmtRsaScheme::end(s, at),
-        Kind::TpmtEccScheme => TpmtEccScheme::end(s, at),
-        Kind::TpmtRsaDecrypt => TpmtRsaDecrypt::end(s, at),
-        Kind::TpmtPublicParms => TpmtPublicParms::end(s, at),
-        Kind::TpmtSignature => TpmtSignature::end(s, at),
-        Kind::TpmtPublic => TpmtPublic::end(s, at),
-        Kind::TpmtSensitive => TpmtSensitive::end(s, at),
-        Kind::TpmsAttest => TpmsAttest::end(s, at),
-        Kind::TpmlPcrSelection => TpmlPcrSelection::end(s, at),
-        Kind::TpmsCapabilityData => TpmsCapabilityData::end(s, at),
-        Kind::TpmtNvPublic2 => TpmtNvPublic2::end(s, at),
-        Kind::TpmtTkCreation => TpmtTkCreation::end(s, at),
-        Kind::TpmtTkVerified => TpmtTkVerified::end(s, at),
-        Kind::TpmtTkHashcheck => TpmtTkHashcheck::end(s, at),
-        Kind::TpmtTkAuth => TpmtTkAuth::end(s, at),
+        Kind::TpmtHa => end_of::<TpmtHa>(s, at),
+        Kind::TpmtSymDef => end_of::<TpmtSymDef>(s, at),
+        Kind::TpmtKdfScheme => end_of::<TpmtKdfScheme>(s, at),
+        Kind::TpmtKeyedhashScheme => end_of::<TpmtKeyedhashScheme>(s, at),
+        Kind::TpmtSigScheme => end_of::<TpmtSigScheme>(s, at),
+        Kind::TpmtRsaScheme => end_of::<TpmtRsaScheme>(s, at),
+        Kind::TpmtEccScheme => end_of::<TpmtEccScheme>(s, at),
+        Kind::TpmtRsaDecrypt => end_of::<TpmtRsaDecrypt>(s, at),
+        Kind::TpmtPublicParms => end_of::<TpmtPublicParms>(s, at),
+        Kind::TpmtSignature => end_of::<TpmtSignature>(s, at),
+        Kind::TpmtPublic => end_of::<TpmtPublic>(s, at),
+        Kind::TpmtSensitive => end_of::<TpmtSensitive>(s, at),
+        Kind::TpmsAttest => end_of::<TpmsAttest>(s, at),
+        Kind::TpmlPcrSelection => end_of::<TpmlPcrSelection>(s, at),
+        Kind::TpmsCapabilityData => end_of::<TpmsCapabilityData>(s, at),
+        Kind::TpmtNvPublic2 => end_of::<TpmtNvPublic2>(s, at),
+        Kind::TpmtTkCreation => end_of::<TpmtTkCreation>(s, at),
+        Kind::TpmtTkVerified => end_of::<TpmtTkVerified>(s, at),
+        Kind::TpmtTkHashcheck => end_of::<TpmtTkHashcheck>(s, at),
+        Kind::TpmtTkAuth => end_of::<TpmtTkAuth>(s, at),
     }
 }
 

@@ -6,6 +6,7 @@ ghost use Rattle.format.specs.Kinds.{layout_of};
 ghost use Rattle.format.specs.Numbers.{number_of};
 ghost use Rattle.records.specs.Ends.{WholeEnds};
 
+use crate::read::record_read_whole;
 use areas::tpmt::{TpmtNvPublic2, TpmtTkAuth, TpmtTkCreation, TpmtTkHashcheck, TpmtTkVerified};
 use attest::attestation::TpmsAttest;
 use attest::list::TpmlPcrSelection;
@@ -22,32 +23,40 @@ use sensitive::tpmt::TpmtSensitive;
 use signatures::tpmt::TpmtSignature;
 use wire::unmarshal::TpmUnmarshal;
 
-// By the kind's own reader.
+// By the type's reader, whose contract says what its answer means.
+fn whole_end_of<T: TpmUnmarshal>(s: &[u8], at: usize) -> Result<usize, Refusal>
+    ensures { measure_answer result ≡ end_of (read_whole T.layout s.now at) }
+{
+    let (_, end) = record_read_whole::<T>(s, at)?;
+    Ok(end)
+}
+
+// That of the kind's own type.
 #[tactic(auto, unfolding(format::specs::Kinds::layout_of, format::specs::Kinds::kinds))]
 fn whole_end_by_kind(kind: Kind, s: &[u8], at: usize) -> Result<usize, Refusal>
     ensures { measure_answer result ≡ end_of (read_whole (layout_of (number_of kind)) s.now at) }
 {
     match kind {
-        Kind::TpmtHa => TpmtHa::whole_end(s, at),
-        Kind::TpmtSymDef => TpmtSymDef::whole_end(s, at),
-        Kind::TpmtKdfScheme => TpmtKdfScheme::whole_end(s, at),
-        Kind::TpmtKeyedhashScheme => TpmtKeyedhashScheme::whole_end(s, at),
-        Kind::TpmtSigScheme => TpmtSigScheme::whole_end(s, at),
-        Kind::TpmtRsaScheme => TpmtRsaScheme::whole_end(s, at),
-        Kind::TpmtEccScheme => TpmtEccScheme::whole_end(s, at),
-        Kind::TpmtRsaDecrypt => TpmtRsaDecrypt::whole_end(s, at),
-        Kind::TpmtPublicParms => TpmtPublicParms::whole_end(s, at),
-        Kind::TpmtSignature => TpmtSignature::whole_end(s, at),
-        Kind::TpmtPublic => TpmtPublic::whole_end(s, at),
-        Kind::TpmtSensitive => TpmtSensitive::whole_end(s, at),
-        Kind::TpmsAttest => TpmsAttest::whole_end(s, at),
-        Kind::TpmlPcrSelection => TpmlPcrSelection::whole_end(s, at),
-        Kind::TpmsCapabilityData => TpmsCapabilityData::whole_end(s, at),
-        Kind::TpmtNvPublic2 => TpmtNvPublic2::whole_end(s, at),
-        Kind::TpmtTkCreation => TpmtTkCreation::whole_end(s, at),
-        Kind::TpmtTkVerified => TpmtTkVerified::whole_end(s, at),
-        Kind::TpmtTkHashcheck => TpmtTkHashcheck::whole_end(s, at),
-        Kind::TpmtTkAuth => TpmtTkAuth::whole_end(s, at),
+        Kind::TpmtHa => whole_end_of::<TpmtHa>(s, at),
+        Kind::TpmtSymDef => whole_end_of::<TpmtSymDef>(s, at),
+        Kind::TpmtKdfScheme => whole_end_of::<TpmtKdfScheme>(s, at),
+        Kind::TpmtKeyedhashScheme => whole_end_of::<TpmtKeyedhashScheme>(s, at),
+        Kind::TpmtSigScheme => whole_end_of::<TpmtSigScheme>(s, at),
+        Kind::TpmtRsaScheme => whole_end_of::<TpmtRsaScheme>(s, at),
+        Kind::TpmtEccScheme => whole_end_of::<TpmtEccScheme>(s, at),
+        Kind::TpmtRsaDecrypt => whole_end_of::<TpmtRsaDecrypt>(s, at),
+        Kind::TpmtPublicParms => whole_end_of::<TpmtPublicParms>(s, at),
+        Kind::TpmtSignature => whole_end_of::<TpmtSignature>(s, at),
+        Kind::TpmtPublic => whole_end_of::<TpmtPublic>(s, at),
+        Kind::TpmtSensitive => whole_end_of::<TpmtSensitive>(s, at),
+        Kind::TpmsAttest => whole_end_of::<TpmsAttest>(s, at),
+        Kind::TpmlPcrSelection => whole_end_of::<TpmlPcrSelection>(s, at),
+        Kind::TpmsCapabilityData => whole_end_of::<TpmsCapabilityData>(s, at),
+        Kind::TpmtNvPublic2 => whole_end_of::<TpmtNvPublic2>(s, at),
+        Kind::TpmtTkCreation => whole_end_of::<TpmtTkCreation>(s, at),
+        Kind::TpmtTkVerified => whole_end_of::<TpmtTkVerified>(s, at),
+        Kind::TpmtTkHashcheck => whole_end_of::<TpmtTkHashcheck>(s, at),
+        Kind::TpmtTkAuth => whole_end_of::<TpmtTkAuth>(s, at),
     }
 }
 

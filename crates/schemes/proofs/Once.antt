@@ -1,7 +1,9 @@
--- The parts of each type determine it. Assumes nothing.
+-- The parts of each type determine it, and no two answers of this crate mean the same. Assumes nothing.
 use mathlib.Core.Path.{refl}
 use mathlib.Core.List.{[], ◌∷◌}
-use Rattle.wire.proofs.Once.{Once, number_once, both, fields, holds, bare, union}
+use Rattle.wire.proofs.Once.{Injective, Once, number_once, both, fields, holds, bare, union}
+use Rattle.wire.proofs.Answers.{answer_once}
+use Rattle.wire.specs.Answers.{answer}
 use Rattle.codes.specs.Codes.{hmac, mgf1, xor, null, ecdaa, kdf1_sp800_56a, kdf2, kdf1_sp800_108}
 use Rattle.format.specs.Kinds.{hash}
 use Rattle.codes.proofs.Once.{tpm_alg_id_once}
@@ -101,3 +103,44 @@ tpmt_ecc_scheme_once = fields (λ s. (s.scheme, s.details)) (λ (a, d). record {
 
 pub tpmt_rsa_decrypt_once : Once tpmt_rsa_decrypt_parts
 tpmt_rsa_decrypt_once = fields (λ s. (s.scheme, s.details)) (λ (a, d). record { scheme = a; details = d }) (λ s. refl) (both tpm_alg_id_once tpmu_asym_scheme_once)
+
+-- ---- and so no two answers of a reader of one mean the same
+
+pub tpms_scheme_hash_answer_once : Injective (answer tpms_scheme_hash_parts)
+tpms_scheme_hash_answer_once = answer_once tpms_scheme_hash_once
+
+pub tpms_scheme_ecdaa_answer_once : Injective (answer tpms_scheme_ecdaa_parts)
+tpms_scheme_ecdaa_answer_once = answer_once tpms_scheme_ecdaa_once
+
+pub tpms_scheme_xor_answer_once : Injective (answer tpms_scheme_xor_parts)
+tpms_scheme_xor_answer_once = answer_once tpms_scheme_xor_once
+
+pub tpmu_asym_scheme_answer_once : Injective (answer tpmu_asym_scheme_parts)
+tpmu_asym_scheme_answer_once = answer_once tpmu_asym_scheme_once
+
+pub tpmu_sig_scheme_answer_once : Injective (answer tpmu_sig_scheme_parts)
+tpmu_sig_scheme_answer_once = answer_once tpmu_sig_scheme_once
+
+pub tpmu_keyedhash_scheme_answer_once : Injective (answer tpmu_keyedhash_scheme_parts)
+tpmu_keyedhash_scheme_answer_once = answer_once tpmu_keyedhash_scheme_once
+
+pub tpmu_kdf_scheme_answer_once : Injective (answer tpmu_kdf_scheme_parts)
+tpmu_kdf_scheme_answer_once = answer_once tpmu_kdf_scheme_once
+
+pub tpmt_kdf_scheme_answer_once : Injective (answer tpmt_kdf_scheme_parts)
+tpmt_kdf_scheme_answer_once = answer_once tpmt_kdf_scheme_once
+
+pub tpmt_keyedhash_scheme_answer_once : Injective (answer tpmt_keyedhash_scheme_parts)
+tpmt_keyedhash_scheme_answer_once = answer_once tpmt_keyedhash_scheme_once
+
+pub tpmt_sig_scheme_answer_once : Injective (answer tpmt_sig_scheme_parts)
+tpmt_sig_scheme_answer_once = answer_once tpmt_sig_scheme_once
+
+pub tpmt_rsa_scheme_answer_once : Injective (answer tpmt_rsa_scheme_parts)
+tpmt_rsa_scheme_answer_once = answer_once tpmt_rsa_scheme_once
+
+pub tpmt_ecc_scheme_answer_once : Injective (answer tpmt_ecc_scheme_parts)
+tpmt_ecc_scheme_answer_once = answer_once tpmt_ecc_scheme_once
+
+pub tpmt_rsa_decrypt_answer_once : Injective (answer tpmt_rsa_decrypt_parts)
+tpmt_rsa_decrypt_answer_once = answer_once tpmt_rsa_decrypt_once

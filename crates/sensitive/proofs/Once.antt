@@ -1,7 +1,9 @@
--- The parts of each type determine it. Assumes nothing.
+-- The parts of each type determine it, and no two answers of this crate mean the same. Assumes nothing.
 use mathlib.Core.Path.{refl}
 use mathlib.Core.List.{[], ◌∷◌}
-use Rattle.wire.proofs.Once.{Once, span_once, both, fields, holds, union}
+use Rattle.wire.proofs.Once.{Injective, Once, span_once, both, fields, holds, union}
+use Rattle.wire.proofs.Answers.{answer_once}
+use Rattle.wire.specs.Answers.{answer}
 use Rattle.codes.specs.Codes.{rsa, keyed_hash, ecc, sym_cipher}
 use Rattle.codes.proofs.Once.{tpm_alg_id_once}
 use Rattle.sensitive.specs.declared.tpmu.TpmuSensitiveComposite.{TpmuSensitiveComposite}
@@ -24,3 +26,11 @@ tpmu_sensitive_composite_once =
 
 pub tpmt_sensitive_once : Once tpmt_sensitive_parts
 tpmt_sensitive_once = fields (λ s. (s.sensitive_type, (s.auth_value, (s.seed_value, s.sensitive)))) (λ (a, (b, (c, d))). record { sensitive_type = a; auth_value = b; seed_value = c; sensitive = d }) (λ s. refl) (both tpm_alg_id_once (both span_once (both span_once tpmu_sensitive_composite_once)))
+
+-- ---- and so no two answers of a reader of one mean the same
+
+pub tpmu_sensitive_composite_answer_once : Injective (answer tpmu_sensitive_composite_parts)
+tpmu_sensitive_composite_answer_once = answer_once tpmu_sensitive_composite_once
+
+pub tpmt_sensitive_answer_once : Injective (answer tpmt_sensitive_parts)
+tpmt_sensitive_answer_once = answer_once tpmt_sensitive_once

@@ -1,7 +1,9 @@
--- The parts of each type determine it. Assumes nothing.
+-- The parts of each type determine it, and no two answers of this crate mean the same. Assumes nothing.
 use mathlib.Core.Path.{refl}
 use mathlib.Core.List.{[], ◌∷◌}
-use Rattle.wire.proofs.Once.{Once, span_once, both, fields, holds, bare, union}
+use Rattle.wire.proofs.Once.{Injective, Once, span_once, both, fields, holds, bare, union}
+use Rattle.wire.proofs.Answers.{answer_once}
+use Rattle.wire.specs.Answers.{answer}
 use Rattle.codes.specs.Codes.{hmac, null, rsassa, rsapss, ecdsa, ecdaa, sm2, ecschnorr}
 use Rattle.codes.proofs.Once.{tpm_alg_id_once}
 use Rattle.ciphers.proofs.Once.{tpmt_ha_once}
@@ -45,3 +47,17 @@ tpmu_signature_once =
 
 pub tpmt_signature_once : Once tpmt_signature_parts
 tpmt_signature_once = fields (λ s. (s.sig_alg, s.signature)) (λ (a, b). record { sig_alg = a; signature = b }) (λ s. refl) (both tpm_alg_id_once tpmu_signature_once)
+
+-- ---- and so no two answers of a reader of one mean the same
+
+pub tpms_signature_rsa_answer_once : Injective (answer tpms_signature_rsa_parts)
+tpms_signature_rsa_answer_once = answer_once tpms_signature_rsa_once
+
+pub tpms_signature_ecc_answer_once : Injective (answer tpms_signature_ecc_parts)
+tpms_signature_ecc_answer_once = answer_once tpms_signature_ecc_once
+
+pub tpmu_signature_answer_once : Injective (answer tpmu_signature_parts)
+tpmu_signature_answer_once = answer_once tpmu_signature_once
+
+pub tpmt_signature_answer_once : Injective (answer tpmt_signature_parts)
+tpmt_signature_answer_once = answer_once tpmt_signature_once

@@ -82,6 +82,16 @@ pub sought_part : {k : ℕ} {l : Layout} {ps ls : List Part} {src old last : Lis
 unfolding field_of
 sought_part {k} {l} {ps} {ls} {src} {old} {last} {u} {w} {x} {s} {r} {i} begin p e = subst (λ y. (x ≡ part_of y.0) × StandsAt s r y.1) (sought k l ps ls src old last u w i begin p) (e.0 i, e.1)
 
+pub sought_bytes : (k : ℕ) (l : Layout) (ps ls : List Part) (src old last : List ℕ) (u w : Walk) (x : List ℕ) (i : ℕ) → u ≡ seeking i → Walks k l ps ls src (here u old) (here w last)
+    → ((asked : ℕ) → x ≡ part_of (seek_answer w asked src)) → x ≡ part_of (field_of ps i src)
+unfolding field_of
+sought_bytes k l ps ls src old last u w x i begin p e = e i ∙ ap (λ y. part_of y.0) (sought k l ps ls src old last u w i begin p)
+
+pub sought_place : (s r : Bor (List ℕ)) (k : ℕ) (l : Layout) (ps ls : List Part) (src old last : List ℕ) (u w : Walk) (i : ℕ) → u ≡ seeking i → Walks k l ps ls src (here u old) (here w last)
+    → StandsAt s r (seek_start w src) → StandsAt s r (start_at ps i src)
+unfolding field_of
+sought_place s r k l ps ls src old last u w i begin p e = subst (λ y. StandsAt s r y.1) (sought k l ps ls src old last u w i begin p) e
+
 pub sought_size : (k : ℕ) (l : Layout) (ps ls : List Part) (src old last : List ℕ) (u w : Walk) (x : Ans ℕ) (i : ℕ) → u ≡ seeking i → Walks k l ps ls src (here u old) (here w last)
     → x ≡ size_of (seek_answer w i src) → x ≡ size_of (field_of ps i src)
 unfolding field_of

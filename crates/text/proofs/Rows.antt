@@ -91,6 +91,9 @@ module _ (place size : ℕ) (xs : List ℕ) where
 
 -- ---- how long the lines of answers are
 
+pub said_length : (w : List ℕ) (n k : ℕ) → length w ≤ k → length (w ++ decimal n) ≤ k + 20
+said_length w n k h = omega (arith, length-append w (decimal n), decimal_length n)
+
 said_behind : (w : List ℕ) (n : ℕ) (rest : List ℕ) (j m : ℕ) → length w ≤ j → length rest ≤ m → length (w ++ (decimal n ++ rest)) ≤ j + (20 + m)
 said_behind w n rest j m few more = omega (arith, length-append w (decimal n ++ rest), length-append (decimal n) rest, decimal_length n)
 
@@ -145,6 +148,9 @@ module _ {at : ℕ} {xs old : List ℕ} {m : ℕ} {mid : List ℕ} (k : ℕ) (p 
   pub puts_both : {ys : List ℕ} {r : ℕ} {last : List ℕ} → at + k ≤ length old → Puts m ys mid r last → Puts at (xs ++ ys) old r last
   puts_both h q = puts_and p q
 
+pub said : (w d : List ℕ) {rest all : List ℕ} → rest ≡ all → (w ++ d) ++ rest ≡ w ++ (d ++ all)
+said w d {rest} e = append_assoc w d rest ∙ ap (λ x. w ++ (d ++ x)) e
+
 -- a word and the number behind it, where there was room for the longest and for j bytes more
 module _ (w : List ℕ) (n : ℕ) {at : ℕ} {old : List ℕ} {m : ℕ} {mid : List ℕ} (p : Puts at (w ++ decimal n) old m mid) (j : ℕ) (room : at + (length w + 20 + j) ≤ length old) where
   pub said_left : m + j ≤ length mid
@@ -153,7 +159,34 @@ module _ (w : List ℕ) (n : ℕ) {at : ℕ} {old : List ℕ} {m : ℕ} {mid : L
   pub said_then : {ys : List ℕ} {r : ℕ} {last : List ℕ} → Puts m ys mid r last → Puts at (w ++ (decimal n ++ ys)) old r last
   said_then {ys} q = puts_same (append_assoc w (decimal n) ys) (puts_and p q)
 
--- the line of a refusal, behind its kind
-module _ (k : ℕ) {at : ℕ} {old : List ℕ} (room : at + 131 ≤ length old) {a : ℕ} {first : List ℕ} (p : Puts at (ascii "kind " ++ decimal k) old a first) where
+-- ---- the line of a refusal in six parts, where there is room for the longest
+
+module _ (k : ℕ) (f : Refusal) {at : ℕ} {old : List ℕ} (room : at + 131 ≤ length old) {a : ℕ} {first : List ℕ} (p : Puts at (ascii "kind " ++ decimal k) old a first) where
   pub behind_kind : a + 106 ≤ length first
   behind_kind = said_left (ascii "kind ") k p 106 room
+
+  module _ (n : ℕ) {b : ℕ} {second : List ℕ} (q : Puts a (ascii " refused " ++ decimal n) first b second) where
+    pub behind_number : b + 77 ≤ length second
+    behind_number = said_left (ascii " refused ") n q 77 behind_kind
+
+    module _ {c : ℕ} {third : List ℕ} (r : Puts b (ascii " at " ++ decimal f.place) second c third) where
+      pub behind_place : c + 53 ≤ length third
+      behind_place = said_left (ascii " at ") f.place r 53 behind_number
+
+      module _ {d : ℕ} {fourth : List ℕ} (s : Puts c (ascii " value " ++ decimal f.value) third d fourth) where
+        pub behind_value : d + 26 ≤ length fourth
+        behind_value = said_left (ascii " value ") f.value s 26 behind_place
+
+        module _ {e : ℕ} {fifth : List ℕ} (t : Puts d (had_text f.fault f.had) fourth e fifth) where
+          pub behind_had : e + 1 ≤ length fifth
+          behind_had = puts_left 25 t (had_text_length f.fault f.had) 1 behind_value
+
+          pub refusal_line_puts : {z : ℕ} {last : List ℕ} → n ≡ (paper f.fault).number → Puts e (ascii "\n") fifth z last → Puts at (refused_text k f) old z last
+          refusal_line_puts number u =
+              puts_same
+              (ap (λ m. ascii "kind " ++ (decimal k ++ (ascii " refused " ++ (decimal m ++ (ascii " at " ++ (decimal f.place ++ (ascii " value " ++ (decimal f.value ++ (had_text f.fault f.had ++ ascii "\n"))))))))) number)
+              (said_then (ascii "kind ") k p 106 room
+              (said_then (ascii " refused ") n q 77 behind_kind
+              (said_then (ascii " at ") f.place r 53 behind_number
+              (said_then (ascii " value ") f.value s 26 behind_place
+              (puts_both 25 t (had_text_length f.fault f.had) (omega (arith, behind_value)) u)))))
